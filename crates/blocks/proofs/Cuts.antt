@@ -1,0 +1,63 @@
+-- A text and the lines that it is cut into.
+use native.Mathlib.Omega.{arith}
+use native.Mathlib.Numerals.{one-add, add-one}
+use mathlib.Core.Path.{_≡_, refl, sym, _∙_, ap}
+use mathlib.Core.Bool.{Bool, true, false, cond, not}
+use mathlib.Core.List.{List, [], _∷_, _++_}
+use Prim.Native.Nat.{ℕ, zero, suc, _+_, _≤_, _<_}
+use lib.Dec.{eqb, ltb}
+use lib.ListN.{length, take, drop}
+use Rattle.std.specs.shelf.Lists.{leading}
+use Rattle.std.proofs.shelf.Lists.{length-drop, length-take-le, drop-drop}
+use Rattle.std.proofs.shelf.Sums.{leading-le-length}
+use Rattle.std.proofs.shelf.Tests.{ltb-false, le-ltb}
+use Rattle.blocks.specs.Lines.{onto, cut, placed, inLine}
+
+-- the first line goes up to the first byte 10 or to the end, and the others follow
+abbrev First : List ℕ → Type 0
+First bs = cut bs ≡ take (leading inLine bs) bs ∷ cut (drop (leading inLine bs + 1) bs)
+
+first-onto : (b : ℕ) (bs : List ℕ) → (0 < length bs → First bs) → onto b (cut bs) ≡ take (1 + leading inLine bs) (b ∷ bs) ∷ cut (drop (1 + leading inLine bs + 1) (b ∷ bs))
+first-onto b [] h = refl
+first-onto b (d ∷ ds) h =
+    let n = leading inLine (d ∷ ds) in
+    ap (onto b) (h (omega arith)) ∙ rw (one-add n, add-one (suc n), add-one n) refl
+
+first-by-end : (b : ℕ) (bs : List ℕ) (e : Bool) → eqb b 10 ≡ e → (0 < length bs → First bs) → First (b ∷ bs)
+first-by-end b bs true q h = rw q refl
+first-by-end b bs false q h = rw q (first-onto b bs h)
+
+pub cut-first : (bs : List ℕ) → 0 < length bs → First bs
+cut-first [] h = absurd (omega arith)
+cut-first (b ∷ bs) h = first-by-end b bs (eqb b 10) refl (cut-first bs)
+
+-- the lines from a place in a text on, with their places, where the first has n bytes
+pub placed-first : (text : List ℕ) (from n : ℕ) → from < length text → n ≡ leading inLine (drop from text) → placed (4 + from) (cut (drop from text)) ≡ (4 + from, take n (drop from text)) ∷ placed (4 + (from + n + 1)) (cut (drop (from + n + 1) text))
+placed-first text from n h e =
+    let rest = drop from text in
+    let m = leading inLine rest in
+    let some : 0 < length rest = simp length-drop (omega arith) in
+    let long : length (take m rest) ≡ m = length-take-le m rest (leading-le-length inLine rest) in
+    let at : 4 + from + length (take m rest) + 1 ≡ 4 + (from + m + 1) = omega arith in
+    let far : from + (m + 1) ≡ from + m + 1 = omega arith in
+    ap (placed (4 + from)) (cut-first rest some)
+    ∙ ap (λ k. (4 + from, take m rest) ∷ placed k (cut (drop (m + 1) rest))) at
+    ∙ ap (λ l. (4 + from, take m rest) ∷ placed (4 + (from + m + 1)) (cut l)) (drop-drop (m + 1) from text ∙ ap (λ k. drop k text) far)
+    ∙ ap (λ k. (4 + from, take k rest) ∷ placed (4 + (from + k + 1)) (cut (drop (from + k + 1) text))) (sym e)
+
+-- no byte of the line ends it
+abbrev pub Whole : List ℕ → Type 0
+Whole line = ltb (leading inLine line) (length line) ≡ false
+
+whole-more : (b : ℕ) (line : List ℕ) (e : Bool) → eqb b 10 ≡ e → Whole (b ∷ line) → (eqb b 10 ≡ false) × Whole line
+whole-more b line true q w = absurd (let z = rw q at w in omega (arith, ltb-false 0 (length (b ∷ line)) z))
+whole-more b line false q w =
+    let z = rw q at w in
+    (q, le-ltb (leading inLine line) (length line) (omega (arith, ltb-false (1 + leading inLine line) (length (b ∷ line)) z)))
+
+-- a line with a byte 10 behind it is cut off
+pub cut-line : (line rest : List ℕ) → Whole line → cut (line ++ (10 ∷ rest)) ≡ line ∷ cut rest
+cut-line [] rest w = refl
+cut-line (b ∷ line) rest w =
+    let p = whole-more b line (eqb b 10) refl w in
+    rw (p .0) (ap (onto b) (cut-line line rest (p .1)))

@@ -1,0 +1,4 @@
+pub mod Texts
+pub mod Cuts
+pub mod Sealed
+pub mod Packed

@@ -1,0 +1,25 @@
+use native.Mathlib.Omega.{arith}
+use mathlib.Core.Path.{sym, _∙_}
+use mathlib.Core.List.{[]}
+use Rattle.std.proofs.shelf.Lists.{at-drop-more, at-drop-all}
+use Rattle.std.proofs.shelf.Ways.{tells}
+use Rattle.blocks.specs.Packing.{checked, lent}
+use Rattle.blocks.proofs.packing.check_lines.Needs as need
+
+pub returns-then-line-gt503 : need.returns-then-line-gt503
+returns-then-line-gt503 c =
+    let e = at-drop-more (λ ls. checked (c .loop-i .i) (lent ls)) (c .args .lines .now) (c .loop-i .i) (record { ptr = (0, 0); name = 0; now = [] }) (c .loop-i-test .taken) in
+    grind (arith, tells)
+
+pub returns-then-line-len-line : need.returns-then-line-len-line
+returns-then-line-len-line c =
+    let e = at-drop-more (λ ls. checked (c .loop-i .i) (lent ls)) (c .args .lines .now) (c .loop-i .i) (record { ptr = (0, 0); name = 0; now = [] }) (c .loop-i-test .taken) in
+    grind (arith, tells)
+
+pub loop-i-again : need.loop-i-again
+loop-i-again c =
+    let e = at-drop-more (λ ls. checked (c .loop-i .i) (lent ls)) (c .args .lines .now) (c .loop-i .i) (record { ptr = (0, 0); name = 0; now = [] }) (c .loop-i-test .taken) in
+    grind (arith, tells)
+
+pub returns : need.returns
+returns c = sym (at-drop-all (λ ls. checked (c .loop-i .i) (lent ls)) (c .args .lines .now) (c .loop-i .i) (c .loop-i-test .left)) ∙ c .loop-i .inv

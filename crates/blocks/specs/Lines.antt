@@ -1,0 +1,30 @@
+-- The lines of a text, and where they stand. Assumes nothing.
+use mathlib.Core.Bool.{Bool, cond, not}
+use mathlib.Core.List.{List, [], _∷_, _++_}
+use Prim.Native.Nat.{ℕ, _+_}
+use lib.Dec.{eqb}
+use lib.ListN.{length}
+use Rattle.blocks.specs.Layout.{textOf}
+
+-- a byte in front of the first line
+abbrev pub onto : ℕ → List (List ℕ) → List (List ℕ)
+onto b [] = (b ∷ []) ∷ []
+onto b (line ∷ lines) = (b ∷ line) ∷ lines
+
+-- a text cut after each byte 10, which belongs to no line
+abbrev pub cut : List ℕ → List (List ℕ)
+cut [] = []
+cut (b ∷ bs) = cond (eqb b 10) ([] ∷ cut bs) (onto b (cut bs))
+
+-- each line with its place, where the first begins at a given one
+abbrev pub placed : ℕ → List (List ℕ) → List (ℕ × List ℕ)
+placed at [] = []
+placed at (line ∷ lines) = (at, line) ∷ placed (at + length line + 1) lines
+
+-- the lines of a block: those of its text, which begins at offset 4
+abbrev pub linesIn : List ℕ → List (ℕ × List ℕ)
+linesIn block = placed 4 (cut (textOf block))
+
+-- a byte that does not end a line
+abbrev pub inLine : ℕ → Bool
+inLine b = not (eqb b 10)

@@ -1,0 +1,11 @@
+// Job files as blocks of 512 bytes: their check, the lines that they hold, and how lines are packed into them.
+mod check;
+mod packing;
+mod reader;
+
+pub use check::check_block;
+pub use check::next_block;
+pub use check::sum_of;
+pub use check::text_of;
+pub use reader::PlacedLine;
+pub use reader::Reader;
