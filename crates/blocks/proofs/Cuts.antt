@@ -6,12 +6,13 @@ use mathlib.Core.Bool.{Bool, true, false, cond, not}
 use mathlib.Core.List.{List, [], _∷_, _++_}
 use Prim.Native.Nat.{ℕ, zero, suc, _+_, _≤_, _<_}
 use lib.Dec.{eqb, ltb}
+use denote.Ref.{RefT}
 use lib.ListN.{length, take, drop}
 use Rattle.std.specs.shelf.Lists.{leading}
-use Rattle.std.proofs.shelf.Lists.{length-drop, length-take-le, drop-drop}
+use Rattle.std.proofs.shelf.Lists.{append-assoc, length-drop, length-take-le, drop-drop, map-push}
 use Rattle.std.proofs.shelf.Sums.{leading-le-length}
 use Rattle.std.proofs.shelf.Tests.{ltb-false, le-ltb}
-use Rattle.blocks.specs.Lines.{onto, cut, placed, inLine}
+use Rattle.blocks.specs.Lines.{onto, cut, placed, inLine, lent}
 
 -- the first line goes up to the first byte 10 or to the end, and the others follow
 abbrev First : List ℕ → Type 0
@@ -61,3 +62,14 @@ cut-line [] rest w = refl
 cut-line (b ∷ line) rest w =
     let p = whole-more b line (eqb b 10) refl w in
     rw (p .0) (ap (onto b) (cut-line line rest (p .1)))
+
+-- one line more is cut off the rest of a text
+pub cut-more : (done : List (List ℕ)) (text rest : List ℕ) (n : ℕ) → 0 < length rest → n ≡ leading inLine rest → done ++ cut rest ≡ cut text → (done ++ (take n rest ∷ [])) ++ cut (drop (n + 1) rest) ≡ cut text
+cut-more done text rest n some e before =
+    append-assoc done (take n rest ∷ []) (cut (drop (n + 1) rest))
+    ∙ ap (λ k. done ++ (take k rest ∷ cut (drop (k + 1) rest))) e
+    ∙ ap (λ l. done ++ l) (sym (cut-first rest some))
+    ∙ before
+
+pub lent-push : (refs more : List (RefT (List ℕ))) (line : RefT (List ℕ)) → more ≡ refs ++ (line ∷ []) → lent more ≡ lent refs ++ (line .now ∷ [])
+lent-push refs more line e = ap lent e ∙ map-push (λ (r : RefT (List ℕ)). r .now) refs line

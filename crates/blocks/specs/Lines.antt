@@ -1,9 +1,10 @@
 -- The lines of a text, and where they stand. Assumes nothing.
 use mathlib.Core.Bool.{Bool, cond, not}
-use mathlib.Core.List.{List, [], _∷_, _++_}
+use mathlib.Core.List.{List, [], _∷_, _++_, map}
 use Prim.Native.Nat.{ℕ, _+_}
 use lib.Dec.{eqb}
 use lib.ListN.{length}
+use denote.Ref.{RefT, now}
 use Rattle.blocks.specs.Layout.{textOf}
 
 -- a byte in front of the first line
@@ -28,3 +29,7 @@ linesIn block = placed 4 (cut (textOf block))
 -- a byte that does not end a line
 abbrev pub inLine : ℕ → Bool
 inLine b = not (eqb b 10)
+
+-- the lines that are lent as references to their bytes
+abbrev pub lent : List (RefT (List ℕ)) → List (List ℕ)
+lent refs = map (λ line. line .now) refs

@@ -5,7 +5,6 @@ use mathlib.Core.List.{List, [], _∷_, _++_, map}
 use Prim.Native.Nat.{ℕ, _+_, _-_, _*_, _/_, _%_, _<_, _≤_}
 use lib.Dec.{eqb, leb, ltb}
 use lib.ListN.{length, replicate, take}
-use denote.Ref.{RefT, now}
 use Rattle.std.specs.declared.result.Result.{Result}
 use Rattle.std.specs.declared.result.Result.the-variants.{Ok, Err}
 use Rattle.std.specs.declared.vec.Vec.{Vec}
@@ -66,10 +65,6 @@ checked k [] = Ok tt
 checked k (line ∷ lines) =
     cond (ltb 503 (length line)) (Err (LineTooLong k))
     (cond (ltb (leading inLine line) (length line)) (Err (LineBroken k)) (checked (k + 1) lines))
-
--- the lines that a slice of them lends
-abbrev pub lent : List (RefT (List ℕ)) → List (List ℕ)
-lent refs = map (λ line. line .now) refs
 
 -- a packed job: its bytes are the blocks of the groups, and it holds the lines; a fault in a line is answered first, and
 -- then that there are more than 65,536 blocks, which 16 bits cannot number

@@ -1,16 +1,22 @@
 // Whether 512 bytes are the next block of a job, and where its text is.
 ghost use mathlib.Core.Path.{_≡_};
-ghost use mathlib.Core.List.{List, [], _∷_, _++_};
-ghost use Prim.Native.Nat.{ℕ, _+_, _*_, _<_, _≤_, min};
-ghost use lib.ListN.{length, getD, take, drop};
-ghost use Rattle.std.specs.Results.{Cases};
-ghost use Rattle.std.specs.declared.result.Result.the-variants.{Ok, Err};
-ghost use Rattle.terms.specs.declared.Refusal.the-variants.{EndsInsideBlock};
-ghost use Rattle.blocks.specs.Layout.{number16, number32, weighted, checkOf, used, textOf, unused, ended, zeros, goodText, verdict};
+ghost use Prim.Native.Nat.{_+_, _≤_, min};
+ghost use lib.ListN.{length};
+ghost use Rattle.blocks.specs.Layout.{weighted, checkOf, used, textOf, unused, ended, zeros, goodText, verdict};
 ghost use Rattle.blocks.specs.Reading.{Opens};
 use terms::Refusal;
 
+// A block is 512 bytes, its numbers little-endian: its number in two bytes, the used length in two, the text from
+// offset 4 to 507, and the check in the last four.
 pub const BLOCK_SIZE: usize = 512;
+
+pub(crate) const TEXT_START: usize = 4;
+
+pub(crate) const TEXT_END: usize = 508;
+
+pub const TEXT_MAX: usize = TEXT_END - TEXT_START;
+
+pub type Block = [u8; BLOCK_SIZE];
 
 // Each byte times its place, counted from 1.
 pub(crate) fn weighted_sum(bytes: &[u8]) -> u32
@@ -25,10 +31,10 @@ pub(crate) fn weighted_sum(bytes: &[u8]) -> u32
 }
 
 // The check that a block has to hold: the byte at offset p counts p + 1 times, up to offset 507.
-pub fn sum_of(block: &[u8; 512]) -> u32
+pub fn sum_of(block: &Block) -> u32
     ensures { λ r. ⌜ r ≡ checkOf (now (block .entry)) ⌝ }
 {
-    weighted_sum(&block[0..508])
+    weighted_sum(&block[0..TEXT_END])
 }
 
 fn is_zero(bytes: &[u8]) -> bool
@@ -51,45 +57,45 @@ fn is_ended(text: &[u8]) -> bool
     }
 }
 
-fn used_length(block: &[u8; 512]) -> usize
+fn used_length(block: &Block) -> usize
     ensures { λ r. ⌜ r ≡ used (now (block .entry)) ⌝ }
 {
     u16::from_le_bytes([block[2], block[3]]) as usize
 }
 
 // Where the text of a block ends.
-fn text_end(block: &[u8; 512]) -> usize
+fn text_end(block: &Block) -> usize
     ensures value { λ r. ⌜ r ≡ 4 + min (used (now (block .entry))) 504 ⌝ }
     ensures bound { λ r. ⌜ r ≤ 508 ⌝ }
 {
-    4 + used_length(block).min(504)
+    TEXT_START + used_length(block).min(TEXT_MAX)
 }
 
 // The text of a block: as many bytes from offset 4 on as it says it uses, and none past offset 507.
-pub fn text_of(block: &[u8; 512]) -> &[u8]
+pub fn text_of(block: &Block) -> &[u8]
     ensures { λ r. ⌜ now r ≡ textOf (now (block .entry)) ⌝ }
 {
-    &block[4..text_end(block)]
+    &block[TEXT_START..text_end(block)]
 }
 
 // The bytes behind the text.
-fn unused_of(block: &[u8; 512]) -> &[u8]
+fn unused_of(block: &Block) -> &[u8]
     ensures { λ r. ⌜ now r ≡ unused (now (block .entry)) ⌝ }
 {
-    &block[text_end(block)..508]
+    &block[text_end(block)..TEXT_END]
 }
 
-fn is_good_text(block: &[u8; 512]) -> bool
+fn is_good_text(block: &Block) -> bool
     ensures { λ r. ⌜ r ≡ goodText (now (block .entry)) ⌝ }
 {
-    if used_length(block) > 504 || !is_ended(text_of(block)) {
+    if used_length(block) > TEXT_MAX || !is_ended(text_of(block)) {
         return false;
     }
     is_zero(unused_of(block))
 }
 
 // Refuses 512 bytes that are not the block of the number `next`.
-pub fn check_block(block: &[u8; 512], next: u32) -> Result<(), Refusal>
+pub fn check_block(block: &Block, next: u32) -> Result<(), Refusal>
     ensures { λ r. ⌜ r ≡ verdict (now (block .entry)) next ⌝ }
 {
     let held = u32::from_le_bytes([block[508], block[509], block[510], block[511]]);
@@ -106,10 +112,10 @@ pub fn check_block(block: &[u8; 512], next: u32) -> Result<(), Refusal>
 }
 
 // The next block of a job, whose bytes from here on are `rest`.
-pub fn next_block(rest: &[u8], next: u32) -> Result<&[u8; 512], Refusal>
+pub fn next_block(rest: &[u8], next: u32) -> Result<&Block, Refusal>
     ensures { λ r. ⌜ Opens (now (rest .entry)) next r ⌝ }
 {
-    let Some(block) = rest.first_chunk::<512>() else {
+    let Some(block) = rest.first_chunk::<BLOCK_SIZE>() else {
         return Err(Refusal::EndsInsideBlock);
     };
     check_block(block, next)?;

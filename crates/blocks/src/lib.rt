@@ -3,9 +3,18 @@ mod check;
 mod packing;
 mod reader;
 
+pub use check::BLOCK_SIZE;
+pub use check::Block;
+pub use check::TEXT_MAX;
 pub use check::check_block;
 pub use check::next_block;
 pub use check::sum_of;
 pub use check::text_of;
+pub use packing::LINE_MAX;
+pub use packing::PackError;
+pub use packing::PackErrorDebug;
+pub use packing::PackErrorPartialEq;
+pub use packing::pack;
 pub use reader::PlacedLine;
 pub use reader::Reader;
+pub use reader::split_lines;

@@ -9,11 +9,17 @@ ghost use Rattle.std.specs.Vec.{made};
 ghost use Rattle.std.specs.declared.result.Result.the-variants.{Ok, Err};
 ghost use Rattle.blocks.specs.declared.packing.PackError.the-variants.{OutOfMemory};
 ghost use Rattle.blocks.specs.Layout.{ended, verdict};
-ghost use Rattle.blocks.specs.Packing.{Appends, Packs, blockOf, bodyOf, checked, itemsOf, lent};
+ghost use Rattle.blocks.specs.Lines.{lent};
+ghost use Rattle.blocks.specs.Packing.{Appends, Packs, blockOf, bodyOf, checked, itemsOf};
+use crate::check::TEXT_END;
+use crate::check::TEXT_MAX;
 use crate::check::weighted_sum;
 use crate::reader::line_len;
 use std::alloc::AllocError;
 use std::alloc::Global;
+
+// The longest line that fits a block, with a byte 10 behind it.
+pub const LINE_MAX: usize = TEXT_MAX - 1;
 
 // Why lines cannot be packed. Lines are counted from 0.
 #[derive(Clone, Copy, Debug, PartialEq, Eq)]
@@ -44,7 +50,7 @@ fn body(heap: Global, number: u16, text: &[u8]) -> Result<Vec<u8>, AllocError>
     body.extend_from_slice(&number.to_le_bytes())?;
     body.extend_from_slice(&(text.len() as u16).to_le_bytes())?;
     body.extend_from_slice(text)?;
-    body.resize(508, 0)?;
+    body.resize(TEXT_END, 0)?;
     Ok(body)
 }
 
@@ -64,7 +70,7 @@ fn check_lines(lines: &[&[u8]]) -> Result<(), PackError>
     ensures { λ r. ⌜ r ≡ checked 0 (lent (now (lines .entry))) ⌝ }
 {
     for (i, line) in lines.iter().enumerate() {
-        if line.len() > 503 {
+        if line.len() > LINE_MAX {
             return Err(PackError::LineTooLong { line: i });
         }
         if line_len(line) < line.len() {
@@ -101,7 +107,7 @@ pub fn pack(heap: Global, lines: &[&[u8]]) -> Result<Vec<u8>, PackError>
     let mut text = Vec::new(heap);
     let mut number: u16 = 0;
     for line in lines {
-        if text.len() + line.len() + 1 > 504 {
+        if text.len() + line.len() + 1 > TEXT_MAX {
             append_block(heap, &mut job, number, text.as_slice())?;
             let Some(next) = number.checked_add(1) else {
                 return Err(PackError::TooManyBlocks);

@@ -3,9 +3,15 @@ ghost use mathlib.Core.Path.{_≡_};
 ghost use Prim.Native.Nat.{_≤_};
 ghost use lib.ListN.{length};
 ghost use Rattle.std.specs.shelf.Lists.{leading};
-ghost use Rattle.blocks.specs.Lines.{linesIn, inLine};
+ghost use Rattle.std.specs.Of.Vec.{vec-items};
+ghost use Rattle.std.specs.Vec.{made};
+ghost use Rattle.blocks.specs.Lines.{cut, inLine, lent, linesIn};
 ghost use Rattle.blocks.specs.Reading.{toCome, HandsOut};
+use crate::check::Block;
+use crate::check::TEXT_START;
 use crate::check::text_of;
+use std::alloc::AllocError;
+use std::alloc::Global;
 
 // A line as it stands in its block: the offset of its first byte, and its bytes without the byte 10.
 #[derive(Clone, Copy, Debug)]
@@ -17,7 +23,7 @@ pub struct PlacedLine<'a> {
 // Reads a block line by line. `done` bytes of the text are behind it.
 #[derive(Drop)]
 pub struct Reader<'a> {
-    block: &'a [u8; 512],
+    block: &'a Block,
     done: usize,
 }
 
@@ -34,9 +40,27 @@ pub(crate) fn line_len(text: &[u8]) -> usize
     text.len()
 }
 
+// The lines of a text, cut after each byte 10.
+pub fn split_lines<'a>(heap: Global, text: &'a [u8]) -> Result<Vec<&'a [u8]>, AllocError>
+    ensures { λ r. ⌜ made r (λ v. lent (vec-items v) ≡ cut (now (text .entry))) ⌝ }
+{
+    let mut lines = Vec::new(heap);
+    let mut rest = text;
+    while !rest.is_empty() {
+        let n = line_len(rest);
+        lines.push(&rest[0..n])?;
+        rest = if n < rest.len() {
+            &rest[n + 1..]
+        } else {
+            &rest[n..]
+        };
+    }
+    Ok(lines)
+}
+
 impl<'a> Reader<'a> {
     // A reader before the first line of a block.
-    pub fn new(block: &'a [u8; 512]) -> Reader<'a>
+    pub fn new(block: &'a Block) -> Reader<'a>
         ensures { λ r. ⌜ toCome r ≡ linesIn (now (block .entry)) ⌝ }
     {
         Reader { block, done: 0 }
@@ -55,7 +79,7 @@ impl<'a> Reader<'a> {
         let n = line_len(rest);
         self.done = from + n + 1;
         Some(PlacedLine {
-            offset: 4 + from,
+            offset: TEXT_START + from,
             bytes: &rest[0..n],
         })
     }

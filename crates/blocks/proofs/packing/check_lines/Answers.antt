@@ -3,11 +3,12 @@ use mathlib.Core.Path.{sym, _∙_}
 use mathlib.Core.List.{[]}
 use Rattle.std.proofs.shelf.Lists.{at-drop-more, at-drop-all}
 use Rattle.std.proofs.shelf.Ways.{tells}
-use Rattle.blocks.specs.Packing.{checked, lent}
+use Rattle.blocks.specs.Lines.{lent}
+use Rattle.blocks.specs.Packing.{checked}
 use Rattle.blocks.proofs.packing.check_lines.Needs as need
 
-pub returns-then-line-gt503 : need.returns-then-line-gt503
-returns-then-line-gt503 c =
+pub returns-then-line-gt-LINE-MAX : need.returns-then-line-gt-LINE-MAX
+returns-then-line-gt-LINE-MAX c =
     let e = at-drop-more (λ ls. checked (c .loop-i .i) (lent ls)) (c .args .lines .now) (c .loop-i .i) (record { ptr = (0, 0); name = 0; now = [] }) (c .loop-i-test .taken) in
     grind (arith, tells)
 

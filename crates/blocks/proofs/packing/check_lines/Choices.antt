@@ -1,6 +1,7 @@
 use mathlib.Core.Path.{_≡_}
 use lib.ListN.{drop}
-use Rattle.blocks.specs.Packing.{checked, lent}
+use Rattle.blocks.specs.Lines.{lent}
+use Rattle.blocks.specs.Packing.{checked}
 use Rattle.blocks.proofs.packing.check_lines.Given as given
 
 abbrev pub Inv-loop-i : given.InvT-loop-i

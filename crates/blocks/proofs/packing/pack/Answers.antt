@@ -11,10 +11,11 @@ use Rattle.std.proofs.shelf.Lists.{at-drop-more, at-drop-all}
 use Rattle.std.proofs.shelf.Tests.{eqb-true, eqb-false}
 use Rattle.std.proofs.shelf.Results.{err-from-errBy}
 use Rattle.blocks.specs.Layout.{ended, verdict}
-use Rattle.blocks.specs.Packing.{lent, checked, Packs, blockOf}
+use Rattle.blocks.specs.Lines.{lent}
+use Rattle.blocks.specs.Packing.{checked, Packs, blockOf}
 use Rattle.blocks.proofs.Packed.{Sofar, fine-from-checked, none-sofar, line-fits, line-next, too-many, all-sealed, last-sealed, fault-answered, sofar-at, open-ended}
 use Rattle.blocks.proofs.packing.pack.Needs as need
-use Rattle.blocks.proofs.packing.pack.Needs.{then-len-line-gt504·in-Continue-append-block·in-Some, else-len-line-gt504, then-not-is-empty·in-Continue-append-block-2, else-not-is-empty}
+use Rattle.blocks.proofs.packing.pack.Needs.{then-len-line-gt-TEXT-MAX·in-Continue-append-block·in-Some, else-len-line-gt-TEXT-MAX, then-not-is-empty·in-Continue-append-block-2, else-not-is-empty}
 
 -- what a read past the end of the lines would give
 abbrev nowhere : RefT (List ℕ)
@@ -44,7 +45,7 @@ returns-in-rest c =
     let i = c .loop-line .line-index in
     let s = subst (λ r. Sofar (lent lines) r (vec-items (c .loop-line .job)) (c .loop-line .number) (vec-items (c .loop-line .text))) (from-here lines i (c .loop-line-test .taken)) (c .loop-line .inv) in (
       sym (c .in-Continue-check-lines .ensures tt),
-      too-many (lent lines) _ (lineAt lines i) _ _ _ s (omega (arith, c .if-len-line-gt504 .taken, c .len .ensures, c .loop-line .text .ok .0)) (omega (arith, c .in-rest .ensures tt)),
+      too-many (lent lines) _ (lineAt lines i) _ _ _ s (omega (arith, c .if-len-line-gt-TEXT-MAX .taken, c .len .ensures, c .loop-line .text .ok .0)) (omega (arith, c .in-rest .ensures tt)),
     )
 
 pub loop-line-again : need.loop-line-again
@@ -58,14 +59,14 @@ loop-line-again c =
     let line = lineAt lines i in
     let s = subst (λ r. Sofar (lent lines) r job number text) (from-here lines i (c .loop-line-test .taken)) (c .loop-line .inv) in
     let added = c .in-Continue-append-line .ensures tt in
-    elim (c .if-len-line-gt504 .came) [
-      | then-len-line-gt504·in-Continue-append-block·in-Some w ↦
+    elim (c .if-len-line-gt-TEXT-MAX .came) [
+      | then-len-line-gt-TEXT-MAX·in-Continue-append-block·in-Some w ↦
           let slice = w .as-slice .ensures .value in
           let passes = subst (λ t. ended t ≡ true → verdict (blockOf number t) number ≡ Ok tt) slice (w .in-Continue-append-block .ensures tt .passes) (open-ended _ _ _ _ _ s) in
-          let next = line-next (lent lines) rest line job text number s (omega (arith, w .if-len-line-gt504 .taken, c .len .ensures, c .loop-line .text .ok .0)) (w .in-Some .ensures tt .0) passes in
+          let next = line-next (lent lines) rest line job text number s (omega (arith, w .if-len-line-gt-TEXT-MAX .taken, c .len .ensures, c .loop-line .text .ok .0)) (w .in-Some .ensures tt .0) passes in
           sofar-at _ _ _ _ _ _ _ _ (ap vec-items (w .job-is) ∙ w .in-Continue-append-block .ensures tt .bytes ∙ ap (λ t. job ++ blockOf number t) slice) (w .number-is ∙ w .in-Some .ensures tt .1) (added ∙ ap (λ t. t ++ (line ++ (10 ∷ []))) (ap vec-items (w .text-is) ∙ w .clear .ensures .items)) next
-      | else-len-line-gt504 w ↦
-          let next = line-fits (lent lines) rest line job text number s (omega (arith, w .if-len-line-gt504 .left, c .len .ensures, c .loop-line .text .ok .0)) in
+      | else-len-line-gt-TEXT-MAX w ↦
+          let next = line-fits (lent lines) rest line job text number s (omega (arith, w .if-len-line-gt-TEXT-MAX .left, c .len .ensures, c .loop-line .text .ok .0)) in
           sofar-at _ _ _ _ _ _ _ _ (ap vec-items (w .job-is)) (w .number-is) (added ∙ ap (λ t. t ++ (line ++ (10 ∷ []))) (ap vec-items (w .text-is))) next
     ]
 

@@ -1,6 +1,6 @@
 use lib.ListN.{drop}
 use Rattle.std.specs.Of.Vec.{vec-items}
-use Rattle.blocks.specs.Packing.{lent}
+use Rattle.blocks.specs.Lines.{lent}
 use Rattle.blocks.proofs.Packed.{Sofar}
 use Rattle.blocks.proofs.packing.pack.Given as given
 
