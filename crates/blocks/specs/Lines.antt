@@ -26,9 +26,12 @@ placed at (line ∷ lines) = (at, line) ∷ placed (at + length line + 1) lines
 abbrev pub linesIn : List ℕ → List (ℕ × List ℕ)
 linesIn block = placed 4 (cut (textOf block))
 
--- a byte that does not end a line
+-- a byte that is not the one that stops, and so one that does not end a line
+abbrev pub differs : ℕ → ℕ → Bool
+differs stop b = not (eqb b stop)
+
 abbrev pub inLine : ℕ → Bool
-inLine b = not (eqb b 10)
+inLine b = differs 10 b
 
 -- the lines that are lent as references to their bytes
 abbrev pub lent : List (RefT (List ℕ)) → List (List ℕ)

@@ -2,7 +2,7 @@
 ghost use mathlib.Core.Path.{_≡_};
 ghost use Prim.Native.Nat.{_+_, _≤_, min};
 ghost use lib.ListN.{length};
-ghost use Rattle.blocks.specs.Layout.{weighted, checkOf, used, textOf, unused, ended, zeros, goodText, verdict};
+ghost use Rattle.blocks.specs.Layout.{number16, number32, weighted, checkOf, used, textOf, unused, ended, zeros, goodText, verdict};
 ghost use Rattle.blocks.specs.Reading.{Opens};
 use terms::Refusal;
 
@@ -94,15 +94,26 @@ fn is_good_text(block: &Block) -> bool
     is_zero(unused_of(block))
 }
 
+fn held_check(block: &Block) -> u32
+    ensures { λ r. ⌜ r ≡ number32 (now (block .entry)) 508 ⌝ }
+{
+    u32::from_le_bytes([block[508], block[509], block[510], block[511]])
+}
+
+fn held_number(block: &Block) -> usize
+    ensures { λ r. ⌜ r ≡ number16 (now (block .entry)) 0 ⌝ }
+{
+    u16::from_le_bytes([block[0], block[1]]) as usize
+}
+
 // Refuses 512 bytes that are not the block of the number `next`.
-pub fn check_block(block: &Block, next: u32) -> Result<(), Refusal>
+pub fn check_block(block: &Block, next: usize) -> Result<(), Refusal>
     ensures { λ r. ⌜ r ≡ verdict (now (block .entry)) next ⌝ }
 {
-    let held = u32::from_le_bytes([block[508], block[509], block[510], block[511]]);
-    if held != sum_of(block) {
+    if held_check(block) != sum_of(block) {
         return Err(Refusal::CheckDiffers);
     }
-    if u16::from_le_bytes([block[0], block[1]]) as u32 != next {
+    if held_number(block) != next {
         return Err(Refusal::BlockNotNext);
     }
     if !is_good_text(block) {
@@ -112,7 +123,7 @@ pub fn check_block(block: &Block, next: u32) -> Result<(), Refusal>
 }
 
 // The next block of a job, whose bytes from here on are `rest`.
-pub fn next_block(rest: &[u8], next: u32) -> Result<&Block, Refusal>
+pub fn next_block(rest: &[u8], next: usize) -> Result<&Block, Refusal>
     ensures { λ r. ⌜ Opens (now (rest .entry)) next r ⌝ }
 {
     let Some(block) = rest.first_chunk::<BLOCK_SIZE>() else {

@@ -1,8 +1,10 @@
 // Job files as blocks of 512 bytes: their check, the lines that they hold, and how lines are packed into them.
+mod bytes;
 mod check;
 mod packing;
 mod reader;
 
+pub use bytes::len_before;
 pub use check::BLOCK_SIZE;
 pub use check::Block;
 pub use check::TEXT_MAX;
@@ -13,6 +15,8 @@ pub use check::text_of;
 pub use packing::LINE_MAX;
 pub use packing::PackError;
 pub use packing::PackErrorDebug;
+pub use packing::PackErrorDisplay;
+pub use packing::PackErrorError;
 pub use packing::PackErrorPartialEq;
 pub use packing::pack;
 pub use reader::PlacedLine;

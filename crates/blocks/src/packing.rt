@@ -11,12 +11,14 @@ ghost use Rattle.blocks.specs.declared.packing.PackError.the-variants.{OutOfMe
 ghost use Rattle.blocks.specs.Layout.{ended, verdict};
 ghost use Rattle.blocks.specs.Lines.{lent};
 ghost use Rattle.blocks.specs.Packing.{Appends, Packs, blockOf, bodyOf, checked, itemsOf};
+use crate::bytes::len_before;
 use crate::check::TEXT_END;
 use crate::check::TEXT_MAX;
 use crate::check::weighted_sum;
-use crate::reader::line_len;
 use std::alloc::AllocError;
 use std::alloc::Global;
+use std::error::Error;
+use std::fmt;
 
 // The longest line that fits a block, with a byte 10 behind it.
 pub const LINE_MAX: usize = TEXT_MAX - 1;
@@ -32,6 +34,26 @@ pub enum PackError {
     TooManyBlocks,
     OutOfMemory,
 }
+
+// What a person is told, with lines counted from 1.
+pub impl fmt::Display for PackError as PackErrorDisplay {
+    fn fmt<W: fmt::Write>(&self, f: &mut fmt::Formatter<W>) -> fmt::Result {
+        match *self {
+            PackError::LineTooLong { line } => {
+                let place = line.saturating_add(1);
+                write!(f, "line {place} has more than {LINE_MAX} bytes")
+            }
+            PackError::LineBroken { line } => {
+                let place = line.saturating_add(1);
+                write!(f, "line {place} holds a line break")
+            }
+            PackError::TooManyBlocks => write!(f, "the lines fill more than 65,536 blocks"),
+            PackError::OutOfMemory => write!(f, "out of memory"),
+        }
+    }
+}
+
+pub impl Error for PackError as PackErrorError {}
 
 pub impl From<AllocError> for PackError as PackErrorFromAlloc {
     ghost converts = { λ _ r. r ≡ OutOfMemory };
@@ -73,7 +95,7 @@ fn check_lines(lines: &[&[u8]]) -> Result<(), PackError>
         if line.len() > LINE_MAX {
             return Err(PackError::LineTooLong { line: i });
         }
-        if line_len(line) < line.len() {
+        if len_before(line, b'\n') < line.len() {
             return Err(PackError::LineBroken { line: i });
         }
     }

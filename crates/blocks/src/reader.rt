@@ -1,12 +1,10 @@
 // The lines of one block, one after the other, each with its place.
 ghost use mathlib.Core.Path.{_≡_};
-ghost use Prim.Native.Nat.{_≤_};
-ghost use lib.ListN.{length};
-ghost use Rattle.std.specs.shelf.Lists.{leading};
 ghost use Rattle.std.specs.Of.Vec.{vec-items};
 ghost use Rattle.std.specs.Vec.{made};
-ghost use Rattle.blocks.specs.Lines.{cut, inLine, lent, linesIn};
+ghost use Rattle.blocks.specs.Lines.{cut, lent, linesIn};
 ghost use Rattle.blocks.specs.Reading.{toCome, HandsOut};
+use crate::bytes::len_before;
 use crate::check::Block;
 use crate::check::TEXT_START;
 use crate::check::text_of;
@@ -27,19 +25,6 @@ pub struct Reader<'a> {
     done: usize,
 }
 
-// How many bytes the first line has.
-pub(crate) fn line_len(text: &[u8]) -> usize
-    ensures value { λ r. ⌜ r ≡ leading inLine (now (text .entry)) ⌝ }
-    ensures bound { λ r. ⌜ r ≤ length (now (text .entry)) ⌝ }
-{
-    for (i, b) in text.iter().enumerate() {
-        if *b == b'\n' {
-            return i;
-        }
-    }
-    text.len()
-}
-
 // The lines of a text, cut after each byte 10.
 pub fn split_lines<'a>(heap: Global, text: &'a [u8]) -> Result<Vec<&'a [u8]>, AllocError>
     ensures { λ r. ⌜ made r (λ v. lent (vec-items v) ≡ cut (now (text .entry))) ⌝ }
@@ -47,7 +32,7 @@ pub fn split_lines<'a>(heap: Global, text: &'a [u8]) -> Result<Vec<&'a [u8]>, Al
     let mut lines = Vec::new(heap);
     let mut rest = text;
     while !rest.is_empty() {
-        let n = line_len(rest);
+        let n = len_before(rest, b'\n');
         lines.push(&rest[0..n])?;
         rest = if n < rest.len() {
             &rest[n + 1..]
@@ -76,7 +61,7 @@ impl<'a> Reader<'a> {
             return None;
         }
         let rest = &text[from..];
-        let n = line_len(rest);
+        let n = len_before(rest, b'\n');
         self.done = from + n + 1;
         Some(PlacedLine {
             offset: TEXT_START + from,

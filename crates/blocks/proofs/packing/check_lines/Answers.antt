@@ -12,8 +12,8 @@ returns-then-line-gt-LINE-MAX c =
     let e = at-drop-more (λ ls. checked (c .loop-i .i) (lent ls)) (c .args .lines .now) (c .loop-i .i) (record { ptr = (0, 0); name = 0; now = [] }) (c .loop-i-test .taken) in
     grind (arith, tells)
 
-pub returns-then-line-len-line : need.returns-then-line-len-line
-returns-then-line-len-line c =
+pub returns-then-len-before-line : need.returns-then-len-before-line
+returns-then-len-before-line c =
     let e = at-drop-more (λ ls. checked (c .loop-i .i) (lent ls)) (c .args .lines .now) (c .loop-i .i) (record { ptr = (0, 0); name = 0; now = [] }) (c .loop-i-test .taken) in
     grind (arith, tells)
 

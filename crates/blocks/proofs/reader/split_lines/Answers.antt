@@ -15,15 +15,15 @@ use Rattle.blocks.proofs.reader.split_lines.Needs as need
 use Rattle.blocks.proofs.reader.split_lines.Needs.{In-Continue-push}
 
 -- after a line was pushed, the lines behind it are still to come
-one-line-more : (c : In-Continue-push) → lent (vec-items (c .push .last .self)) ++ cut (drop (c .line-len-n .result + 1) (c .loop-rest .rest .now)) ≡ cut (c .args .text .now)
+one-line-more : (c : In-Continue-push) → lent (vec-items (c .push .last .self)) ++ cut (drop (c .len-before-n .result + 1) (c .loop-rest .rest .now)) ≡ cut (c .args .text .now)
 one-line-more c =
     let rest = c .loop-rest .rest .now in
-    let n = c .line-len-n .result in
+    let n = c .len-before-n .result in
     let some = eqb-false _ 0 (sym (c .loop-rest-test .ensures tt)) in
     let none : n - 0 ≡ n = omega arith in
     let items = lent-push _ _ _ (c .in-Continue-push .ensures tt .items) in
     ap (λ l. l ++ cut (drop (n + 1) rest)) (items ∙ ap (λ k. lent (vec-items (c .loop-rest .lines)) ++ (take k rest ∷ [])) none)
-    ∙ cut-more (lent (vec-items (c .loop-rest .lines))) (c .args .text .now) rest n (omega arith) (c .line-len-n .ensures .value) (c .loop-rest .inv .0)
+    ∙ cut-more (lent (vec-items (c .loop-rest .lines))) (c .args .text .now) rest n (omega arith) (c .len-before-n .ensures .value) (c .loop-rest .inv .0)
 
 pub add-rest : need.add-rest
 add-rest c = let short = c .loop-rest .inv .1 in search needs
@@ -31,14 +31,14 @@ add-rest c = let short = c .loop-rest .inv .1 in search needs
 pub loop-rest-again-then-n-rest : need.loop-rest-again-then-n-rest
 loop-rest-again-then-n-rest c =
     let rest = c .loop-rest .rest .now in
-    let n = c .line-len-n .result in
+    let n = c .len-before-n .result in
     let part = take-rest rest (n + 1) in
     (ap (λ l. lent (vec-items (c .push .last .self)) ++ cut l) part ∙ one-line-more (need.at·loop-rest-again-then-n-rest c .In-Continue-push), omega (arith, ap length part, length-drop (n + 1) rest, c .loop-rest .inv .1))
 
 pub loop-rest-again : need.loop-rest-again
 loop-rest-again c =
     let rest = c .loop-rest .rest .now in
-    let n = c .line-len-n .result in
+    let n = c .len-before-n .result in
     let part = take-rest rest n in
     let none = drop-all n rest (c .if-n-rest .left) in
     let past = drop-all (n + 1) rest (omega (arith, c .if-n-rest .left)) in

@@ -21,10 +21,10 @@ pub returns : need.returns
 returns c =
     let text = c .text-of-text .result .now in
     let from = c .args .self .now .done in
-    let n = c .line-len-n .result in
+    let n = c .len-before-n .result in
     let same : textOf (c .args .self .now .block .now) ≡ text = sym (c .text-of-text .ensures) in
     let rest = take-rest text from in
-    let e : n ≡ leading inLine (drop from text) = c .line-len-n .ensures .value ∙ ap (leading inLine) rest in
+    let e : n ≡ leading inLine (drop from text) = c .len-before-n .ensures .value ∙ ap (leading inLine) rest in
     let none : n - 0 ≡ n = omega arith in
     let first = placed-first text from n (c .if-from-text .left) e in
     let line : take (n - 0) (take (length text - from) (drop from text)) ≡ take n (drop from text) = ap (λ k. take k (take (length text - from) (drop from text))) none ∙ ap (take n) rest in
