@@ -4,15 +4,16 @@ use native.Mathlib.Numerals.{one-add, add-one}
 use mathlib.Core.Path.{_≡_, refl, sym, _∙_, ap}
 use mathlib.Core.Bool.{Bool, true, false, cond, not}
 use mathlib.Core.List.{List, [], _∷_, _++_}
-use Prim.Native.Nat.{ℕ, zero, suc, _+_, _≤_, _<_}
+use Prim.Native.Nat.{ℕ, zero, suc, _+_, _-_, _≤_, _<_}
 use lib.Dec.{eqb, ltb}
 use denote.Ref.{RefT}
-use lib.ListN.{length, take, drop}
-use Rattle.std.specs.shelf.Lists.{leading}
+use lib.ListN.{length, getD, take, drop}
+use Rattle.std.specs.shelf.Lists.{All, leading}
 use Rattle.std.proofs.shelf.Lists.{append-assoc, length-drop, length-take-le, drop-drop, map-push}
 use Rattle.std.proofs.shelf.Sums.{leading-le-length}
-use Rattle.std.proofs.shelf.Tests.{ltb-false, le-ltb}
-use Rattle.blocks.specs.Lines.{onto, cut, placed, inLine, lent}
+use Rattle.std.proofs.shelf.Tests.{ltb-false, le-ltb, eqb-true, ne-eqb}
+use Rattle.blocks.specs.Layout.{ended}
+use Rattle.blocks.specs.Lines.{onto, cut, placed, inLine, lent, textFrom, Unbroken, CutsWhole}
 
 -- the first line goes up to the first byte 10 or to the end, and the others follow
 abbrev First : List ℕ → Type 0
@@ -73,3 +74,39 @@ cut-more done text rest n some e before =
 
 pub lent-push : (refs more : List (RefT (List ℕ))) (line : RefT (List ℕ)) → more ≡ refs ++ (line ∷ []) → lent more ≡ lent refs ++ (line .now ∷ [])
 lent-push refs more line e = ap lent e ∙ map-push (λ (r : RefT (List ℕ)). r .now) refs line
+
+-- a byte in front of the first line is one in front of the text
+onto-text : (b : ℕ) (lines : List (List ℕ)) → 0 < length lines → textFrom (onto b lines) ≡ b ∷ textFrom lines
+onto-text b [] h = absurd (omega arith)
+onto-text b (line ∷ lines) h = refl
+
+onto-unbroken : (b : ℕ) (lines : List (List ℕ)) → eqb b 10 ≡ false → All Unbroken lines → All Unbroken (onto b lines)
+onto-unbroken b [] q h = (rw q refl, tt)
+onto-unbroken b (line ∷ lines) q h = (rw q (omega (arith, h .0)), h .1)
+
+cut-some : (b : ℕ) (bs : List ℕ) (e : Bool) → 0 < length (cond e ([] ∷ cut bs) (onto b (cut bs)))
+cut-some b bs true = omega arith
+cut-some b bs false = onto-some (cut bs)
+  where
+    onto-some : (lines : List (List ℕ)) → 0 < length (onto b lines)
+    onto-some [] = omega arith
+    onto-some (line ∷ lines) = omega arith
+
+ended-last : (b : ℕ) (bs : List ℕ) → ended (b ∷ bs) ≡ eqb (getD (b ∷ bs) (length (b ∷ bs) - 1) 0) 10
+ended-last b bs = rw (ne-eqb (length (b ∷ bs)) 0 (λ e. omega arith)) refl
+
+-- a text that ends in byte 10 still does without its first byte
+ended-more : (b d : ℕ) (bs : List ℕ) → ended (b ∷ d ∷ bs) ≡ true → ended (d ∷ bs) ≡ true
+ended-more b d bs h =
+    let first : length (b ∷ d ∷ bs) - 1 ≡ suc (length bs) = omega arith in
+    let last : length (d ∷ bs) - 1 ≡ length bs = omega arith in
+    ended-last d bs ∙ ap (λ k. eqb (getD (d ∷ bs) k 0) 10) last ∙ ap (λ k. eqb (getD (b ∷ d ∷ bs) k 0) 10) (sym first) ∙ sym (ended-last b (d ∷ bs)) ∙ h
+
+whole-by : (b : ℕ) (bs : List ℕ) (e : Bool) → eqb b 10 ≡ e → 0 < length (cut bs) → (textFrom (cut bs) ≡ bs) × All Unbroken (cut bs) → (textFrom (cut (b ∷ bs)) ≡ b ∷ bs) × All Unbroken (cut (b ∷ bs))
+whole-by b bs true q some h = rw q (ap (λ t. 10 ∷ t) (h .0) ∙ ap (λ k. k ∷ bs) (sym (eqb-true b 10 q)), (refl, h .1))
+whole-by b bs false q some h = rw q (onto-text b (cut bs) some ∙ ap (λ t. b ∷ t) (h .0), onto-unbroken b (cut bs) q (h .1))
+
+pub cuts-whole : CutsWhole
+cuts-whole [] h = (refl, tt)
+cuts-whole (b ∷ []) h = let ten = eqb-true b 10 h in rw ten (refl, (refl, tt))
+cuts-whole (b ∷ d ∷ bs) h = whole-by b (d ∷ bs) (eqb b 10) refl (cut-some d bs (eqb d 10)) (cuts-whole (d ∷ bs) (ended-more b d bs h))

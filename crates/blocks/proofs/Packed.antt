@@ -15,8 +15,8 @@ use Rattle.std.proofs.shelf.Tests.{cases-bool, ltb-false, le-leb, lt-leb, ne-eq
 use Rattle.blocks.specs.declared.packing.PackError.{PackError}
 use Rattle.blocks.specs.declared.packing.PackError.the-variants.{LineTooLong, LineBroken, TooManyBlocks, OutOfMemory}
 use Rattle.blocks.specs.Layout.{ended, textOf, verdict}
-use Rattle.blocks.specs.Lines.{cut, inLine}
-use Rattle.blocks.specs.Packing.{textFrom, fits, begun, grouped, blocksFrom, blockOf, Holds, checked, Packs}
+use Rattle.blocks.specs.Lines.{cut, inLine, textFrom}
+use Rattle.blocks.specs.Packing.{fits, begun, grouped, blocksFrom, blockOf, Holds, checked, Packs}
 use Rattle.blocks.specs.Packing.Holds.{nothing, block}
 use Rattle.blocks.proofs.Cuts.{Whole, cut-line}
 use Rattle.blocks.proofs.Sealed.{sealed-length, sealed-text}

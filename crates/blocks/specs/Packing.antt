@@ -14,7 +14,7 @@ use Rattle.std.specs.shelf.Lists.{leading}
 use Rattle.blocks.specs.declared.packing.PackError.{PackError}
 use Rattle.blocks.specs.declared.packing.PackError.the-variants.{LineTooLong, LineBroken, TooManyBlocks, OutOfMemory}
 use Rattle.blocks.specs.Layout.{weighted, textOf, verdict}
-use Rattle.blocks.specs.Lines.{cut, inLine}
+use Rattle.blocks.specs.Lines.{cut, inLine, textFrom}
 
 -- a number in two or four bytes, the lowest byte first
 abbrev pub bytes16 : ℕ → List ℕ
@@ -30,11 +30,6 @@ bodyOf number text = bytes16 number ++ (bytes16 (length text) ++ (text ++ replic
 -- the block of a number and a text
 unfoldable pub blockOf : ℕ → List ℕ → List ℕ
 blockOf number text = bodyOf number text ++ bytes32 (weighted 1 (bodyOf number text))
-
--- the text of some lines: each with byte 10 behind it
-abbrev pub textFrom : List (List ℕ) → List ℕ
-textFrom [] = []
-textFrom (line ∷ lines) = line ++ (10 ∷ textFrom lines)
 
 -- whether a line has room behind others in one block
 abbrev pub fits : List (List ℕ) → List ℕ → Bool
@@ -75,12 +70,12 @@ Packs lines (Err OutOfMemory) = Unit {0}
 Packs lines (Err (LineTooLong k)) = checked 0 lines ≡ Err (LineTooLong k)
 Packs lines (Err (LineBroken k)) = checked 0 lines ≡ Err (LineBroken k)
 
--- the bytes of a job that was made
+-- the same of what `pack` answers: the bytes of the job that was made
 abbrev pub itemsOf : Result (Vec ℕ Global) PackError → Result (List ℕ) PackError
 itemsOf (Ok job) = Ok (vec-items job)
 itemsOf (Err e) = Err e
 
--- more was put behind what there was, or memory ran out
+-- for the private functions: more was put behind what there was, or memory ran out
 abbrev pub Appends : List ℕ → List ℕ → Result (Unit {0}) PackError → List ℕ → Type 0
 Appends before more (Ok done) after = after ≡ before ++ more
 Appends before more (Err e) after = e ≡ OutOfMemory

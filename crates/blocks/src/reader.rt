@@ -2,7 +2,7 @@
 ghost use mathlib.Core.Path.{_≡_};
 ghost use Rattle.std.specs.Of.Vec.{vec-items};
 ghost use Rattle.std.specs.Vec.{made};
-ghost use Rattle.blocks.specs.Lines.{cut, lent, linesIn};
+ghost use Rattle.blocks.specs.Lines.{CutsWhole, cut, lent, linesIn};
 ghost use Rattle.blocks.specs.Reading.{toCome, HandsOut};
 use crate::bytes::len_before;
 use crate::check::Block;
@@ -46,7 +46,8 @@ pub fn split_lines<'a>(heap: Global, text: &'a [u8]) -> Result<Vec<&'a [u8]>, Al
 impl<'a> Reader<'a> {
     // A reader before the first line of a block.
     pub fn new(block: &'a Block) -> Reader<'a>
-        ensures { λ r. ⌜ toCome r ≡ linesIn (now (block .entry)) ⌝ }
+        ensures lines { λ r. ⌜ toCome r ≡ linesIn (now (block .entry)) ⌝ }
+        ensures whole { λ _. ⌜ CutsWhole ⌝ }
     {
         Reader { block, done: 0 }
     }

@@ -57,7 +57,7 @@ pub record Listed (job text : List ℕ) (refusals : ℕ) : Type 0 where
   pub counts : refusals ≡ refusalsIn entries
   pub prints : text ≡ joined printed entries ++ summary blocks lines refusals
 
--- the lines of a block are printed behind what was printed before: how many lines of the job there are then, and how
+-- for the private functions: the lines of a block are printed behind what was printed before, with how many lines of the job there are then, and how
 -- many of these were refused
 pub record Adds (block : List ℕ) (number before : ℕ) (was : List ℕ) (lines refusals : ℕ) (is : List ℕ) : Type 0 where
   pub entries : List Entry

@@ -15,7 +15,7 @@ use Rattle.jobs.proofs.list_lines.Needs.{In-Some}
 pub loop-line-holds : need.loop-line-holds
 loop-line-holds c =
     let block = c .args .block .now in
-    let all : bytesOf (toCome (c .new-reader .result)) ≡ cut (textOf block) = ap bytesOf (c .new-reader .ensures) ∙ bytes-placed 4 (cut (textOf block)) in
+    let all : bytesOf (toCome (c .new-reader .result)) ≡ cut (textOf block) = ap bytesOf (c .new-reader .ensures .lines) ∙ bytes-placed 4 (cut (textOf block)) in
     rw all (along-none block (c .args .number) (c .args .before) (vec-items (c .args .out .now)))
 
 -- the line at hand, and those behind it
