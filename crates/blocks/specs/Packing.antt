@@ -35,14 +35,16 @@ blockOf number text = bodyOf number text ++ bytes32 (weighted 1 (bodyOf number t
 abbrev pub fits : List (List ℕ) → List ℕ → Bool
 fits group line = leb (length (textFrom group) + length line + 1) 504
 
--- lines in groups of as many as fit a block, where the first group has begun
+-- a group that has begun is the last one, unless it is empty
 abbrev pub begun : List (List ℕ) → List (List (List ℕ))
 begun [] = []
 begun (line ∷ group) = (line ∷ group) ∷ []
 
+-- lines in groups, each of as many as fit a block, where the first group has begun
 abbrev pub grouped : List (List ℕ) → List (List ℕ) → List (List (List ℕ))
 grouped group [] = begun group
-grouped group (line ∷ lines) = cond (fits group line) (grouped (group ++ (line ∷ [])) lines) (group ∷ grouped (line ∷ []) lines)
+grouped group (line ∷ lines) =
+    cond (fits group line) (grouped (group ++ (line ∷ [])) lines) (group ∷ grouped (line ∷ []) lines)
 
 -- a block for each group, numbered on from a number
 abbrev pub blocksFrom : ℕ → List (List (List ℕ)) → List ℕ
@@ -52,9 +54,14 @@ blocksFrom number (group ∷ groups) = blockOf number (textFrom group) ++ blocks
 -- the bytes of a job hold lines: block by block, each passes its check with the next number and holds the lines of its text
 pub data Holds : ℕ → List ℕ → List (List ℕ) → Type 0 where
   nothing : {next : ℕ} → Holds next [] []
-  block : (next : ℕ) (bytes rest : List ℕ) (lines : List (List ℕ)) → length bytes ≡ 512 → verdict bytes next ≡ Ok tt → Holds (next + 1) rest lines → Holds next (bytes ++ rest) (cut (textOf bytes) ++ lines)
+  block :
+      (next : ℕ) (bytes rest : List ℕ) (lines : List (List ℕ)) →
+      length bytes ≡ 512 →
+      verdict bytes next ≡ Ok tt →
+      Holds (next + 1) rest lines →
+      Holds next (bytes ++ rest) (cut (textOf bytes) ++ lines)
 
--- what keeps the lines, counted on from k, out of every block: the first line that is longer than 503 bytes or holds a byte 10
+-- what keeps the lines, counted on from k, out of every block: the first that is longer than 503 bytes or holds a byte 10
 abbrev pub checked : ℕ → List (List ℕ) → Result (Unit {0}) PackError
 checked k [] = Ok tt
 checked k (line ∷ lines) =
@@ -64,7 +71,11 @@ checked k (line ∷ lines) =
 -- a packed job: its bytes are the blocks of the groups, and it holds the lines; a fault in a line is answered first, and
 -- then that there are more than 65,536 blocks, which 16 bits cannot number
 abbrev pub Packs : List (List ℕ) → Result (List ℕ) PackError → Type 0
-Packs lines (Ok job) = (checked 0 lines ≡ Ok tt) × (length (grouped [] lines) ≤ 65536) × (job ≡ blocksFrom 0 (grouped [] lines)) × Holds 0 job lines
+Packs lines (Ok job) =
+    (checked 0 lines ≡ Ok tt)
+    × (length (grouped [] lines) ≤ 65536)
+    × (job ≡ blocksFrom 0 (grouped [] lines))
+    × Holds 0 job lines
 Packs lines (Err TooManyBlocks) = (checked 0 lines ≡ Ok tt) × (65536 < length (grouped [] lines))
 Packs lines (Err OutOfMemory) = Unit {0}
 Packs lines (Err (LineTooLong k)) = checked 0 lines ≡ Err (LineTooLong k)

@@ -23,15 +23,36 @@ pub data Entry : Type 0 where
 -- the lines of a block, after some lines of the job: each is an order or is refused
 pub data ListsLines (block : ℕ) : ℕ → List (List ℕ) → List Entry → Type 0 where
   none : {before : ℕ} → ListsLines block before [] []
-  anOrder : (before : ℕ) (bytes : List ℕ) (o : Order) (lines : List (List ℕ)) (entries : List Entry) → Spells bytes o → ListsLines block (before + 1) lines entries → ListsLines block before (bytes ∷ lines) (order block (before + 1) bytes ∷ entries)
-  noOrder : (before : ℕ) (bytes : List ℕ) (lines : List (List ℕ)) (entries : List Entry) → ((o : Order) → Spells bytes o → ⊥) → ListsLines block (before + 1) lines entries → ListsLines block before (bytes ∷ lines) (refused NotAnOrder block (before + 1) ∷ entries)
+  anOrder :
+      (before : ℕ) (bytes : List ℕ) (o : Order) (lines : List (List ℕ)) (entries : List Entry) →
+      Spells bytes o →
+      ListsLines block (before + 1) lines entries →
+      ListsLines block before (bytes ∷ lines) (order block (before + 1) bytes ∷ entries)
+  noOrder :
+      (before : ℕ) (bytes : List ℕ) (lines : List (List ℕ)) (entries : List Entry) →
+      ((o : Order) → Spells bytes o → ⊥) →
+      ListsLines block (before + 1) lines entries →
+      ListsLines block before (bytes ∷ lines) (refused NotAnOrder block (before + 1) ∷ entries)
+
+-- the lines of the block at the front
+abbrev pub frontLines : List ℕ → List (List ℕ)
+frontLines rest = cut (textOf (take 512 rest))
 
 -- the bytes of a job from a block on, after some lines: what is listed of them, and how many blocks and lines there are
 -- then in all. A block that is refused ends the job, and has the line 0.
 pub data Lists : ℕ → ℕ → List ℕ → List Entry → ℕ → ℕ → Type 0 where
   ends : {block before : ℕ} → Lists block before [] [] block before
-  stops : (block before : ℕ) (rest : List ℕ) (refusal : Refusal) → 0 < length rest → judged rest block ≡ Err refusal → Lists block before rest (refused refusal block 0 ∷ []) block before
-  goes : (block before : ℕ) (rest : List ℕ) (here later : List Entry) (blocks lines : ℕ) → judged rest block ≡ Ok tt → ListsLines block before (cut (textOf (take 512 rest))) here → Lists (block + 1) (before + length (cut (textOf (take 512 rest)))) (drop 512 rest) later blocks lines → Lists block before rest (here ++ later) blocks lines
+  stops :
+      (block before : ℕ) (rest : List ℕ) (refusal : Refusal) →
+      0 < length rest →
+      judged rest block ≡ Err refusal →
+      Lists block before rest (refused refusal block 0 ∷ []) block before
+  goes :
+      (block before : ℕ) (rest : List ℕ) (here later : List Entry) (blocks lines : ℕ) →
+      judged rest block ≡ Ok tt →
+      ListsLines block before (frontLines rest) here →
+      Lists (block + 1) (before + length (frontLines rest)) (drop 512 rest) later blocks lines →
+      Lists block before rest (here ++ later) blocks lines
 
 -- how an entry is printed
 abbrev pub printed : Entry → List ℕ
