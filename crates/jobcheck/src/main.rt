@@ -1,4 +1,5 @@
 // Lists a job file: each order and each refusal with its place, and a summary.
+use cli::explained;
 use cli::input;
 use jobs::list_job;
 use std::error::AnyError;
@@ -18,7 +19,7 @@ fn run(rt: &LibcRuntime) -> Result<bool, AnyError> {
 }
 
 fn main(rt: LibcRuntime) -> Result<(), AnyError> {
-    if rt.report(run(&rt))? {
+    if explained(&rt, "jobcheck", run(&rt))? {
         return Ok(());
     }
     Err("something was refused".into())

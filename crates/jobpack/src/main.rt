@@ -2,6 +2,7 @@
 use blocks::PackErrorError;
 use blocks::pack;
 use blocks::split_lines;
+use cli::explained;
 use cli::input;
 use std::error::AnyError;
 
@@ -20,5 +21,5 @@ fn run(rt: &LibcRuntime) -> Result<(), AnyError> {
 }
 
 fn main(rt: LibcRuntime) -> Result<(), AnyError> {
-    rt.report(run(&rt))
+    explained(&rt, "jobpack", run(&rt))
 }
