@@ -2,14 +2,14 @@
 use native.Mathlib.Omega.{arith}
 use native.Mathlib.Numerals.{one-add, add-one}
 use mathlib.Core.Path.{_≡_, refl, sym, _∙_, ap}
-use mathlib.Core.Bool.{Bool, true, false, cond, not}
+use mathlib.Core.Bool.{Bool, true, false, cond}
 use mathlib.Core.List.{List, [], _∷_, _++_}
-use Prim.Native.Nat.{ℕ, zero, suc, _+_, _-_, _≤_, _<_}
+use Prim.Native.Nat.{ℕ, suc, _+_, _-_, _<_}
 use lib.Dec.{eqb, ltb}
 use denote.Ref.{RefT}
 use lib.ListN.{length, getD, take, drop}
 use Rattle.std.specs.shelf.Lists.{All, leading}
-use Rattle.std.proofs.shelf.Lists.{append-assoc, length-drop, length-take-le, drop-drop, map-push}
+use Rattle.std.proofs.shelf.Lists.{append-assoc, at-drop-more, length-drop, length-take-le, drop-drop, map-push}
 use Rattle.std.proofs.shelf.Sums.{leading-le-length}
 use Rattle.std.proofs.shelf.Tests.{ltb-false, le-ltb, eqb-true, ne-eqb}
 use Rattle.blocks.specs.Layout.{ended}
@@ -110,3 +110,13 @@ pub cuts-whole : CutsWhole
 cuts-whole [] h = (refl, tt)
 cuts-whole (b ∷ []) h = let ten = eqb-true b 10 h in rw ten (refl, (refl, tt))
 cuts-whole (b ∷ d ∷ bs) h = whole-by b (d ∷ bs) (eqb b 10) refl (cut-some d bs (eqb d 10)) (cuts-whole (d ∷ bs) (ended-more b d bs h))
+
+-- the lines that a slice lends, from a place on: the line there and those behind it. A read past the end gives nowhere.
+abbrev pub nowhere : RefT (List ℕ)
+nowhere = record { ptr = (0, 0); name = 0; now = [] }
+
+abbrev pub lineAt : List (RefT (List ℕ)) → ℕ → List ℕ
+lineAt lines i = getD lines i nowhere .now
+
+pub lent-from : (lines : List (RefT (List ℕ))) (i : ℕ) → i < length lines → lent (drop i lines) ≡ lineAt lines i ∷ lent (drop (i + 1) lines)
+lent-from lines i h = at-drop-more lent lines i nowhere h

@@ -5,13 +5,12 @@ use mathlib.Core.Path.{_≡_, refl, sym, _∙_, ap, subst}
 use mathlib.Core.Bool.{Bool, true, false, cond}
 use mathlib.Core.List.{List, [], _∷_, _++_}
 use Prim.Native.Nat.{ℕ, _+_, _-_, _<_, _≤_}
-use lib.Dec.{ltb, leb}
+use lib.Dec.{ltb}
 use lib.ListN.{length, getD}
-use Rattle.std.specs.declared.result.Result.{Result}
 use Rattle.std.specs.declared.result.Result.the-variants.{Ok, Err}
 use Rattle.std.specs.shelf.Lists.{leading}
-use Rattle.std.proofs.shelf.Lists.{append-assoc, append-nil, length-append, getD-append-add, getD-append-right}
-use Rattle.std.proofs.shelf.Tests.{cases-bool, ltb-false, le-leb, lt-leb, ne-eqb}
+use Rattle.std.proofs.shelf.Lists.{append-assoc, append-nil, length-append, getD-append-add}
+use Rattle.std.proofs.shelf.Tests.{ltb-false, le-leb, lt-leb, ne-eqb}
 use Rattle.blocks.specs.declared.packing.PackError.{PackError}
 use Rattle.blocks.specs.declared.packing.PackError.the-variants.{LineTooLong, LineBroken, TooManyBlocks, OutOfMemory}
 use Rattle.blocks.specs.Layout.{ended, textOf, verdict}
@@ -121,11 +120,14 @@ sofar-at lines rest job job′ text text′ number number′ a b d s = rw (a, b,
 pub open-ended : (lines rest : List (List ℕ)) (job text : List ℕ) (number : ℕ) → Sofar lines rest job number text → ended text ≡ true
 open-ended lines rest job text number s = ap ended (s .same) ∙ ended-text (s .group)
 
+-- the groups that follow, where the line has room in the open block and where it has none
+abbrev split : List (List ℕ) → List (List ℕ) → List ℕ → Bool → List (List (List ℕ))
+split group rest line b = cond b (grouped (group ++ (line ∷ [])) rest) (group ∷ grouped (line ∷ []) rest)
+
 -- one line more in the open block
 pub line-fits : (lines rest : List (List ℕ)) (line job text : List ℕ) (number : ℕ) → Sofar lines (line ∷ rest) job number text → length text + length line + 1 ≤ 504 → Sofar lines rest job number (text ++ (line ++ (10 ∷ [])))
 line-fits lines rest line job text number s room =
     let test : fits (s .group) line ≡ true = le-leb _ _ (omega (arith, ap length (s .same))) in
-    let split : Bool → List (List (List ℕ)) = λ b. cond b (grouped (s .group ++ (line ∷ [])) rest) (s .group ∷ grouped (line ∷ []) rest) in
     record {
       sealed = s .sealed;
       group = s .group ++ (line ∷ []);
@@ -135,8 +137,8 @@ line-fits lines rest line job text number s room =
       low = s .low;
       fine = fine-push (s .group) line (s .fine) (s .later .0) (s .later .1);
       later = s .later .2;
-      bytes = ap (λ b. job ++ blocksFrom number (split b)) (sym test) ∙ s .bytes;
-      count = ap (λ b. number + length (split b)) (sym test) ∙ s .count;
+      bytes = ap (λ b. job ++ blocksFrom number (split (s .group) rest line b)) (sym test) ∙ s .bytes;
+      count = ap (λ b. number + length (split (s .group) rest line b)) (sym test) ∙ s .count;
       holds = s .holds;
     }
 
@@ -148,7 +150,6 @@ held-group group number text short same fine = ap cut (sealed-text number text s
 pub line-next : (lines rest : List (List ℕ)) (line job text : List ℕ) (number : ℕ) → Sofar lines (line ∷ rest) job number text → 504 < length text + length line + 1 → number + 1 < 65536 → verdict (blockOf number text) number ≡ Ok tt → Sofar lines rest (job ++ blockOf number text) (number + 1) (line ++ (10 ∷ []))
 line-next lines rest line job text number s full low passes =
     let test : fits (s .group) line ≡ false = lt-leb _ _ (omega (arith, ap length (s .same))) in
-    let split : Bool → List (List (List ℕ)) = λ b. cond b (grouped (s .group ++ (line ∷ [])) rest) (s .group ∷ grouped (line ∷ []) rest) in
     let after : List ℕ = blocksFrom (number + 1) (grouped (line ∷ []) rest) in
     let held = held-group (s .group) number text (s .short) (s .same) (s .fine) in
     record {
@@ -160,8 +161,8 @@ line-next lines rest line job text number s full low passes =
       low = low;
       fine = (s .later .0, s .later .1, tt);
       later = s .later .2;
-      bytes = append-assoc job (blockOf number text) after ∙ ap (λ t. job ++ (blockOf number t ++ after)) (s .same) ∙ ap (λ b. job ++ blocksFrom number (split b)) (sym test) ∙ s .bytes;
-      count = one-more number _ ∙ ap (λ b. number + length (split b)) (sym test) ∙ s .count;
+      bytes = append-assoc job (blockOf number text) after ∙ ap (λ t. job ++ (blockOf number t ++ after)) (s .same) ∙ ap (λ b. job ++ blocksFrom number (split (s .group) rest line b)) (sym test) ∙ s .bytes;
+      count = one-more number _ ∙ ap (λ b. number + length (split (s .group) rest line b)) (sym test) ∙ s .count;
       holds = λ more lines′ h. subst (λ j. Holds 0 j ((s .sealed ++ s .group) ++ lines′)) (sym (append-assoc job (blockOf number text) more)) (subst (Holds 0 (job ++ (blockOf number text ++ more))) (sym (append-assoc (s .sealed) (s .group) lines′)) (s .holds _ _ (subst (λ l. Holds number (blockOf number text ++ more) (l ++ lines′)) held (block number (blockOf number text) more lines′ (sealed-length number text (s .short)) passes h))));
     }
   where
@@ -181,8 +182,7 @@ some-grouped group (line ∷ lines) h = some-split group _ _ (fits group line) (
 pub too-many : (lines rest : List (List ℕ)) (line job text : List ℕ) (number : ℕ) → Sofar lines (line ∷ rest) job number text → 504 < length text + length line + 1 → 65535 ≤ number → 65536 < length (grouped [] lines)
 too-many lines rest line job text number s full last =
     let test : fits (s .group) line ≡ false = lt-leb _ _ (omega (arith, ap length (s .same))) in
-    let split : Bool → List (List (List ℕ)) = λ b. cond b (grouped (s .group ++ (line ∷ [])) rest) (s .group ∷ grouped (line ∷ []) rest) in
-    omega (arith, ap (λ b. number + length (split b)) (sym test) ∙ s .count, some-grouped (line ∷ []) rest (omega arith))
+    omega (arith, ap (λ b. number + length (split (s .group) rest line b)) (sym test) ∙ s .count, some-grouped (line ∷ []) rest (omega arith))
 
 none-open : (group : List (List ℕ)) → length (textFrom group) ≡ 0 → group ≡ []
 none-open [] e = refl

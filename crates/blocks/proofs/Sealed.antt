@@ -2,13 +2,12 @@
 use native.Mathlib.Omega.{arith}
 use native.Mathlib.Nat.{div-div-eq-div-mul, div-add-mod, mod-eq-of-lt}
 use mathlib.Core.Path.{_≡_, refl, sym, _∙_, ap}
-use mathlib.Core.Bool.{Bool, true, false, cond, _&&_}
-use mathlib.Core.List.{List, [], _∷_, _++_}
+use mathlib.Core.Bool.{true}
+use mathlib.Core.List.{List, _++_}
 use Prim.Native.Nat.{ℕ, zero, suc, _+_, _-_, _*_, _/_, _%_, _^_, _<_, _≤_}
-use lib.Dec.{eqb, leb}
 use lib.ListN.{length, getD, take, drop, replicate}
-use Rattle.std.specs.declared.result.Result.the-variants.{Ok, Err}
-use Rattle.std.proofs.shelf.Lists.{append-assoc, append-nil, length-append, length-replicate, take-at, drop-at, take-all, getD-append-add, take-append-le}
+use Rattle.std.specs.declared.result.Result.the-variants.{Ok}
+use Rattle.std.proofs.shelf.Lists.{length-append, length-replicate, take-at, drop-at, take-all, getD-append-add}
 use Rattle.std.proofs.shelf.Tests.{eq-eqb, le-leb}
 use Rattle.blocks.specs.Layout.{number16, number32, weighted, checkOf, used, textOf, unused, ended, zeros, goodText, verdict}
 use Rattle.blocks.specs.Packing.{bytes16, bytes32, bodyOf, blockOf}

@@ -5,10 +5,10 @@ use Rattle.blocks.specs.Layout.{verdict}
 use Rattle.blocks.specs.Reading.{judged}
 use mathlib.Core.Path.{_≡_, refl, sym, _∙_, ap}
 use mathlib.Core.List.{List}
-use mathlib.Core.Logic.{_⊎_, inl, inr, ⊎-elim}
+use mathlib.Core.Logic.{_⊎_, ⊎-elim}
 use Prim.Native.Nat.{ℕ, _+_, _-_, _≤_, _<_, min}
 use lib.ListN.{length, take, drop}
-use Rattle.std.proofs.shelf.Lists.{take-take, take-all, drop-all, drop-drop, drop-take, length-take, length-drop}
+use Rattle.std.proofs.shelf.Lists.{take-take, take-all, drop-all, drop-take, length-take}
 
 -- the first u of the first n
 pub front-of : (u n : ℕ) (xs : List ℕ) → take (min u n) xs ≡ take u (take n xs)

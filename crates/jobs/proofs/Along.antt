@@ -3,12 +3,11 @@ use native.Mathlib.Omega.{arith}
 use mathlib.Core.Path.{_≡_, refl, sym, _∙_, ap, subst}
 use mathlib.Core.Bool.{Bool, true, false, cond}
 use mathlib.Core.List.{List, [], _∷_, _++_, map}
-use Prim.Native.Nat.{ℕ, suc, _+_, _-_, _<_, _≤_}
+use Prim.Native.Nat.{ℕ, _+_, _-_, _≤_}
 use lib.Dec.{eqb}
 use lib.ListN.{length, take, drop}
 use Rattle.std.specs.Joined.{joined}
-use Rattle.std.proofs.shelf.Lists.{append-assoc, append-nil, length-append, length-take, joined-more}
-use Rattle.terms.specs.declared.Refusal.{Refusal}
+use Rattle.std.proofs.shelf.Lists.{append-assoc, append-nil, length-take, joined-more}
 use Rattle.terms.specs.declared.Refusal.the-variants.{NotAnOrder}
 use Rattle.blocks.specs.Layout.{textOf, used}
 use Rattle.blocks.specs.Lines.{cut, onto, placed}
@@ -58,17 +57,17 @@ along-none block number before was = record {
   prints = sym (append-nil was);
 }
 
-refusals-push : (entries : List Entry) (entry : Entry) → refusalsIn (entries ++ (entry ∷ [])) ≡ refusalsIn entries + refusalsIn (entry ∷ [])
-refusals-push [] entry = omega arith
-refusals-push (order block line bytes ∷ entries) entry = refusals-push entries entry
-refusals-push (refused refusal block line ∷ entries) entry = omega (arith, refusals-push entries entry)
+pub refusals-append : (here later : List Entry) → refusalsIn (here ++ later) ≡ refusalsIn here + refusalsIn later
+refusals-append [] later = omega arith
+refusals-append (order block line bytes ∷ here) later = refusals-append here later
+refusals-append (refused refusal block line ∷ here) later = omega (arith, refusals-append here later)
 
 -- one entry more, for the first line of the rest
 along-more : (block : List ℕ) (number before : ℕ) (was : List ℕ) (line : List ℕ) (rest : List (List ℕ)) (lines refusals : ℕ) (is : List ℕ) (entry : Entry) → Along block number before was (line ∷ rest) lines refusals is → ((later : List Entry) → ListsLines number (lines + 1) rest later → ListsLines number lines (line ∷ rest) (entry ∷ later)) → refusalsIn (entry ∷ []) ≤ 1 → Along block number before was rest (lines + 1) (refusals + refusalsIn (entry ∷ [])) (is ++ printed entry)
 along-more block number before was line rest lines refusals is entry a step small = record {
   entries = a .entries ++ (entry ∷ []);
   lists = λ later h. subst (ListsLines number before (cut (textOf block))) (sym (append-assoc (a .entries) (entry ∷ []) later)) (a .lists (entry ∷ later) (step later h));
-  counts = ap (λ n. n + refusalsIn (entry ∷ [])) (a .counts) ∙ sym (refusals-push (a .entries) entry);
+  counts = ap (λ n. n + refusalsIn (entry ∷ [])) (a .counts) ∙ sym (refusals-append (a .entries) (entry ∷ []));
   few = omega (arith, a .few);
   reaches = omega (arith, a .reaches);
   prints = ap (λ t. t ++ printed entry) (a .prints) ∙ joined-more printed was (a .entries) entry;

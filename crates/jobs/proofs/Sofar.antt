@@ -9,7 +9,7 @@ use lib.ListN.{length, take, drop}
 use Rattle.std.specs.Joined.{joined}
 use Rattle.std.specs.declared.result.Result.{Result}
 use Rattle.std.specs.declared.result.Result.the-variants.{Ok, Err}
-use Rattle.std.proofs.shelf.Lists.{append-assoc, append-nil, length-append, length-drop, joined-more}
+use Rattle.std.proofs.shelf.Lists.{append-assoc, append-nil, length-drop, joined-more}
 use Rattle.std.proofs.shelf.Tests.{ltb-false}
 use Rattle.terms.specs.declared.Refusal.{Refusal}
 use Rattle.terms.specs.declared.Refusal.the-variants.{EndsInsideBlock}
@@ -17,7 +17,7 @@ use Rattle.blocks.specs.Layout.{textOf, verdict}
 use Rattle.blocks.specs.Lines.{cut}
 use Rattle.blocks.specs.Reading.{judged}
 use Rattle.jobs.specs.Listings.{Entry, order, refused, ListsLines, none, anOrder, noOrder, Lists, ends, stops, goes, printed, summary, refusalsIn, Adds, Listed}
-use Rattle.jobs.proofs.Along.{few-lines}
+use Rattle.jobs.proofs.Along.{few-lines, refusals-append}
 
 -- some blocks of a job are listed, and the rest is to come
 pub record Sofar (job rest : List ℕ) (blocks lines refusals : ℕ) (text : List ℕ) : Type 0 where
@@ -47,11 +47,6 @@ long-by rest v false p e = ltb-false (length rest) 512 p
 
 pub whole-block : (rest : List ℕ) (next : ℕ) → judged rest next ≡ Ok tt → 512 ≤ length rest
 whole-block rest next e = long-by rest (verdict (take 512 rest) next) (ltb (length rest) 512) refl e
-
-refusals-append : (here later : List Entry) → refusalsIn (here ++ later) ≡ refusalsIn here + refusalsIn later
-refusals-append [] later = omega arith
-refusals-append (order block line bytes ∷ here) later = refusals-append here later
-refusals-append (refused refusal block line ∷ here) later = omega (arith, refusals-append here later)
 
 joined-append : (here later : List Entry) → joined printed (here ++ later) ≡ joined printed here ++ joined printed later
 joined-append [] later = refl

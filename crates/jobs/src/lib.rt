@@ -4,7 +4,6 @@ ghost use mathlib.Core.List.{_++_};
 ghost use Prim.Native.Nat.{_+_, _^_, _<_};
 ghost use Rattle.std.specs.Of.Vec.{vec-items};
 ghost use Rattle.std.specs.Vec.{made};
-ghost use Rattle.terms.specs.declared.Refusal.{Refusal};
 ghost use Rattle.jobs.specs.Listings.{Adds, Listed, order, refused, printed, summary};
 use blocks::BLOCK_SIZE;
 use blocks::Block;

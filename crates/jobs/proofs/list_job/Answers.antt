@@ -1,11 +1,10 @@
 use borrow.Author.Needs.{needs}
 use native.Mathlib.Omega.{arith}
-use mathlib.Core.Path.{_≡_, refl, sym, _∙_, ap, subst}
-use mathlib.Core.List.{List, [], _∷_, _++_}
-use Prim.Native.Nat.{ℕ, _+_, _*_, _<_, _≤_}
-use lib.ListN.{length, take, drop}
+use mathlib.Core.Path.{sym, _∙_, ap, subst}
+use mathlib.Core.List.{_++_}
+use Prim.Native.Nat.{_+_, _≤_}
+use lib.ListN.{length, drop}
 use Rattle.std.specs.Of.Vec.{vec-items}
-use Rattle.std.specs.Vec.{made}
 use Rattle.std.proofs.shelf.Lists.{take-rest, nil-from-length}
 use Rattle.std.proofs.shelf.Results.{made-weaker}
 use Rattle.std.proofs.shelf.Tests.{eqb-true, eqb-false}

@@ -1,9 +1,8 @@
 use borrow.Author.Needs.{needs}
 use native.Mathlib.Omega.{arith}
-use mathlib.Core.Path.{_≡_, refl, sym, _∙_, ap, subst}
-use mathlib.Core.List.{List, [], _∷_}
-use Prim.Native.Nat.{ℕ, _+_, _<_, _≤_}
-use lib.ListN.{length}
+use mathlib.Core.Path.{_≡_, sym, _∙_, ap}
+use mathlib.Core.List.{_∷_}
+use Prim.Native.Nat.{_+_, _≤_}
 use Rattle.std.specs.Of.Vec.{vec-items}
 use Rattle.blocks.specs.Layout.{textOf}
 use Rattle.blocks.specs.Lines.{cut}

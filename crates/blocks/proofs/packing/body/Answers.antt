@@ -1,4 +1,4 @@
-use mathlib.Core.Path.{_≡_, _∙_, ap}
+use mathlib.Core.Path.{_∙_, ap}
 use mathlib.Core.List.{_++_}
 use Rattle.std.proofs.shelf.Parts.{pushed}
 use Rattle.blocks.specs.Packing.{bytes16}

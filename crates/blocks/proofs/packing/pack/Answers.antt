@@ -1,5 +1,5 @@
 use native.Mathlib.Omega.{arith}
-use mathlib.Core.Path.{_≡_, refl, sym, _∙_, ap, subst}
+use mathlib.Core.Path.{_≡_, sym, _∙_, ap, subst}
 use mathlib.Core.List.{List, [], _∷_, _++_}
 use Prim.Native.Nat.{ℕ, _+_, _<_}
 use mathlib.Core.Bool.{true}
@@ -12,17 +12,11 @@ use Rattle.std.proofs.shelf.Tests.{eqb-true, eqb-false}
 use Rattle.std.proofs.shelf.Results.{err-from-errBy}
 use Rattle.blocks.specs.Layout.{ended, verdict}
 use Rattle.blocks.specs.Lines.{lent}
-use Rattle.blocks.specs.Packing.{checked, Packs, blockOf}
+use Rattle.blocks.specs.Packing.{Packs, blockOf}
+use Rattle.blocks.proofs.Cuts.{lineAt, lent-from}
 use Rattle.blocks.proofs.Packed.{Sofar, fine-from-checked, none-sofar, line-fits, line-next, too-many, all-sealed, last-sealed, fault-answered, sofar-at, open-ended}
 use Rattle.blocks.proofs.packing.pack.Needs as need
 use Rattle.blocks.proofs.packing.pack.Needs.{then-len-line-gt-TEXT-MAX·in-Continue-append-block·in-Some, else-len-line-gt-TEXT-MAX, then-not-is-empty·in-Continue-append-block-2, else-not-is-empty}
-
--- what a read past the end of the lines would give
-abbrev nowhere : RefT (List ℕ)
-nowhere = record { ptr = (0, 0); name = 0; now = [] }
-
-abbrev lineAt : List (RefT (List ℕ)) → ℕ → List ℕ
-lineAt lines i = getD lines i nowhere .now
 
 pub returns-in-Break-check-lines : need.returns-in-Break-check-lines
 returns-in-Break-check-lines c =
@@ -35,15 +29,11 @@ loop-line-holds c =
     rw (c .new-job .ensures .items, c .new-text .ensures .items)
     (none-sofar lines (fine-from-checked 0 lines (sym (c .in-Continue-check-lines .ensures tt))))
 
--- the lines from a place on are the line there and those behind it
-from-here : (lines : List (RefT (List ℕ))) (i : ℕ) → i < length lines → lent (drop i lines) ≡ lineAt lines i ∷ lent (drop (i + 1) lines)
-from-here lines i h = at-drop-more lent lines i nowhere h
-
 pub returns-in-rest : need.returns-in-rest
 returns-in-rest c =
     let lines = c .args .lines .now in
     let i = c .loop-line .line-index in
-    let s = subst (λ r. Sofar (lent lines) r (vec-items (c .loop-line .job)) (c .loop-line .number) (vec-items (c .loop-line .text))) (from-here lines i (c .loop-line-test .taken)) (c .loop-line .inv) in (
+    let s = subst (λ r. Sofar (lent lines) r (vec-items (c .loop-line .job)) (c .loop-line .number) (vec-items (c .loop-line .text))) (lent-from lines i (c .loop-line-test .taken)) (c .loop-line .inv) in (
       sym (c .in-Continue-check-lines .ensures tt),
       too-many (lent lines) _ (lineAt lines i) _ _ _ s (omega (arith, c .if-len-line-gt-TEXT-MAX .taken, c .len .ensures, c .loop-line .text .ok .0)) (omega (arith, c .in-rest .ensures tt)),
     )
@@ -57,7 +47,7 @@ loop-line-again c =
     let text = vec-items (c .loop-line .text) in
     let rest = lent (drop (i + 1) lines) in
     let line = lineAt lines i in
-    let s = subst (λ r. Sofar (lent lines) r job number text) (from-here lines i (c .loop-line-test .taken)) (c .loop-line .inv) in
+    let s = subst (λ r. Sofar (lent lines) r job number text) (lent-from lines i (c .loop-line-test .taken)) (c .loop-line .inv) in
     let added = c .in-Continue-append-line .ensures tt in
     elim (c .if-len-line-gt-TEXT-MAX .came) [
       | then-len-line-gt-TEXT-MAX·in-Continue-append-block·in-Some w ↦

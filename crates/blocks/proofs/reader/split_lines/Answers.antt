@@ -1,12 +1,11 @@
 use borrow.Author.Needs.{needs}
 use native.Mathlib.Omega.{arith}
-use mathlib.Core.Path.{_≡_, refl, sym, _∙_, ap}
-use mathlib.Core.List.{List, [], _∷_, _++_}
-use Prim.Native.Nat.{ℕ, _+_, _-_, _<_, _≤_}
+use mathlib.Core.Path.{_≡_, sym, _∙_, ap}
+use mathlib.Core.List.{[], _∷_, _++_}
+use Prim.Native.Nat.{_+_, _-_}
 use lib.ListN.{length, take, drop}
 use Rattle.std.specs.Of.Vec.{vec-items}
-use Rattle.std.proofs.shelf.Lists.{append-nil, map-append, take-rest, drop-all, length-drop, nil-from-length}
-use Rattle.std.proofs.shelf.Parts.{pushed}
+use Rattle.std.proofs.shelf.Lists.{append-nil, take-rest, drop-all, length-drop, nil-from-length}
 use Rattle.std.proofs.shelf.Tests.{eqb-true, eqb-false}
 use Rattle.blocks.specs.Lines.{cut, lent}
 use Rattle.blocks.proofs.Cuts.{cut-more, lent-push}
