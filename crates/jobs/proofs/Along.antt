@@ -12,7 +12,7 @@ use Rattle.terms.specs.declared.Refusal.the-variants.{NotAnOrder}
 use Rattle.blocks.specs.Layout.{textOf, used}
 use Rattle.blocks.specs.Lines.{cut, onto, placed}
 use Rattle.lines.specs.Grammar.{Order, Spells}
-use Rattle.jobs.specs.Listings.{Entry, order, refused, ListsLines, none, anOrder, noOrder, printed, refusalsIn, Adds}
+use Rattle.jobs.specs.Listings.{Entry, orderAt, refusedAt, ListsLines, none, anOrder, noOrder, printed, refusalsIn, Adds}
 
 -- lines without their places
 abbrev pub bytesOf : List (ℕ × List ℕ) → List (List ℕ)
@@ -59,8 +59,8 @@ along-none block number before was = record {
 
 pub refusals-append : (here later : List Entry) → refusalsIn (here ++ later) ≡ refusalsIn here + refusalsIn later
 refusals-append [] later = omega arith
-refusals-append (order block line bytes ∷ here) later = refusals-append here later
-refusals-append (refused refusal block line ∷ here) later = omega (arith, refusals-append here later)
+refusals-append (orderAt block line bytes ∷ here) later = refusals-append here later
+refusals-append (refusedAt refusal block line ∷ here) later = omega (arith, refusals-append here later)
 
 -- one entry more, for the first line of the rest
 along-more : (block : List ℕ) (number before : ℕ) (was : List ℕ) (line : List ℕ) (rest : List (List ℕ)) (lines refusals : ℕ) (is : List ℕ) (entry : Entry) → Along block number before was (line ∷ rest) lines refusals is → ((later : List Entry) → ListsLines number (lines + 1) rest later → ListsLines number lines (line ∷ rest) (entry ∷ later)) → refusalsIn (entry ∷ []) ≤ 1 → Along block number before was rest (lines + 1) (refusals + refusalsIn (entry ∷ [])) (is ++ printed entry)
@@ -73,15 +73,15 @@ along-more block number before was line rest lines refusals is entry a step smal
   prints = ap (λ t. t ++ printed entry) (a .prints) ∙ joined-more printed was (a .entries) entry;
 }
 
-pub along-order : (block : List ℕ) (number before : ℕ) (was : List ℕ) (line : List ℕ) (rest : List (List ℕ)) (lines refusals : ℕ) (is : List ℕ) (o : Order) → Along block number before was (line ∷ rest) lines refusals is → Spells line o → Along block number before was rest (lines + 1) refusals (is ++ printed (order number (lines + 1) line))
+pub along-order : (block : List ℕ) (number before : ℕ) (was : List ℕ) (line : List ℕ) (rest : List (List ℕ)) (lines refusals : ℕ) (is : List ℕ) (o : Order) → Along block number before was (line ∷ rest) lines refusals is → Spells line o → Along block number before was rest (lines + 1) refusals (is ++ printed (orderAt number (lines + 1) line))
 along-order block number before was line rest lines refusals is o a spelled =
-    let more = along-more block number before was line rest lines refusals is (order number (lines + 1) line) a (λ later h. anOrder lines line o rest later spelled h) (omega arith) in
+    let more = along-more block number before was line rest lines refusals is (orderAt number (lines + 1) line) a (λ later h. anOrder lines line o rest later spelled h) (omega arith) in
     let same : refusals + 0 ≡ refusals = omega arith in
-    subst (λ n. Along block number before was rest (lines + 1) n (is ++ printed (order number (lines + 1) line))) same more
+    subst (λ n. Along block number before was rest (lines + 1) n (is ++ printed (orderAt number (lines + 1) line))) same more
 
-pub along-refused : (block : List ℕ) (number before : ℕ) (was : List ℕ) (line : List ℕ) (rest : List (List ℕ)) (lines refusals : ℕ) (is : List ℕ) → Along block number before was (line ∷ rest) lines refusals is → ((o : Order) → Spells line o → ⊥) → Along block number before was rest (lines + 1) (refusals + 1) (is ++ printed (refused NotAnOrder number (lines + 1)))
+pub along-refused : (block : List ℕ) (number before : ℕ) (was : List ℕ) (line : List ℕ) (rest : List (List ℕ)) (lines refusals : ℕ) (is : List ℕ) → Along block number before was (line ∷ rest) lines refusals is → ((o : Order) → Spells line o → ⊥) → Along block number before was rest (lines + 1) (refusals + 1) (is ++ printed (refusedAt NotAnOrder number (lines + 1)))
 along-refused block number before was line rest lines refusals is a not =
-    along-more block number before was line rest lines refusals is (refused NotAnOrder number (lines + 1)) a (λ later h. noOrder lines line rest later not h) (omega arith)
+    along-more block number before was line rest lines refusals is (refusedAt NotAnOrder number (lines + 1)) a (λ later h. noOrder lines line rest later not h) (omega arith)
 
 pub along-all : (block : List ℕ) (number before : ℕ) (was : List ℕ) (lines refusals : ℕ) (is : List ℕ) → Along block number before was [] lines refusals is → Adds block number before was lines refusals is
 along-all block number before was lines refusals is a = record {

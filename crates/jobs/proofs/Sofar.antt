@@ -16,7 +16,7 @@ use Rattle.terms.specs.declared.Refusal.the-variants.{EndsInsideBlock}
 use Rattle.blocks.specs.Layout.{textOf, verdict}
 use Rattle.blocks.specs.Lines.{cut}
 use Rattle.blocks.specs.Reading.{judged}
-use Rattle.jobs.specs.Listings.{Entry, order, refused, ListsLines, none, anOrder, noOrder, Lists, ends, stops, goes, printed, summary, refusalsIn, Adds, Listed}
+use Rattle.jobs.specs.Listings.{Entry, orderAt, refusedAt, ListsLines, none, anOrder, noOrder, Lists, ends, stops, goes, printed, summary, refusalsIn, Adds, Listed}
 use Rattle.jobs.proofs.Along.{few-lines, refusals-append}
 
 -- some blocks of a job are listed, and the rest is to come
@@ -86,9 +86,9 @@ job-ends job text is blocks lines refusals s e = record {
 }
 
 -- a block is refused
-pub job-stops : (job rest text is : List ℕ) (blocks lines refusals : ℕ) (refusal : Refusal) → Sofar job rest blocks lines refusals text → 0 < length rest → judged rest blocks ≡ Err refusal → is ≡ (text ++ printed (refused refusal blocks 0)) ++ summary blocks lines (refusals + 1) → Listed job is (refusals + 1)
+pub job-stops : (job rest text is : List ℕ) (blocks lines refusals : ℕ) (refusal : Refusal) → Sofar job rest blocks lines refusals text → 0 < length rest → judged rest blocks ≡ Err refusal → is ≡ (text ++ printed (refusedAt refusal blocks 0)) ++ summary blocks lines (refusals + 1) → Listed job is (refusals + 1)
 job-stops job rest text is blocks lines refusals refusal s some bad e =
-    let last = refused refusal blocks 0 in
+    let last = refusedAt refusal blocks 0 in
     record {
       entries = s .entries ++ (last ∷ []);
       blocks = blocks;

@@ -17,8 +17,8 @@ use Rattle.lines.specs.Grammar.{Order, Spells}
 
 -- an order with its place and its bytes, or a refusal with its place: blocks count from 0, lines from 1 through the job
 pub data Entry : Type 0 where
-  order : (block line : ℕ) (bytes : List ℕ) → Entry
-  refused : (refusal : Refusal) (block line : ℕ) → Entry
+  orderAt : (block line : ℕ) (bytes : List ℕ) → Entry
+  refusedAt : (refusal : Refusal) (block line : ℕ) → Entry
 
 -- the lines of a block, after some lines of the job: each is an order or is refused
 pub data ListsLines (block : ℕ) : ℕ → List (List ℕ) → List Entry → Type 0 where
@@ -27,12 +27,12 @@ pub data ListsLines (block : ℕ) : ℕ → List (List ℕ) → List Entry → T
       (before : ℕ) (bytes : List ℕ) (o : Order) (lines : List (List ℕ)) (entries : List Entry) →
       Spells bytes o →
       ListsLines block (before + 1) lines entries →
-      ListsLines block before (bytes ∷ lines) (order block (before + 1) bytes ∷ entries)
+      ListsLines block before (bytes ∷ lines) (orderAt block (before + 1) bytes ∷ entries)
   noOrder :
       (before : ℕ) (bytes : List ℕ) (lines : List (List ℕ)) (entries : List Entry) →
       ((o : Order) → Spells bytes o → ⊥) →
       ListsLines block (before + 1) lines entries →
-      ListsLines block before (bytes ∷ lines) (refused NotAnOrder block (before + 1) ∷ entries)
+      ListsLines block before (bytes ∷ lines) (refusedAt NotAnOrder block (before + 1) ∷ entries)
 
 -- the lines of the block at the front
 abbrev pub frontLines : List ℕ → List (List ℕ)
@@ -46,7 +46,7 @@ pub data Lists : ℕ → ℕ → List ℕ → List Entry → ℕ → ℕ → Typ
       (block before : ℕ) (rest : List ℕ) (refusal : Refusal) →
       0 < length rest →
       judged rest block ≡ Err refusal →
-      Lists block before rest (refused refusal block 0 ∷ []) block before
+      Lists block before rest (refusedAt refusal block 0 ∷ []) block before
   goes :
       (block before : ℕ) (rest : List ℕ) (here later : List Entry) (blocks lines : ℕ) →
       judged rest block ≡ Ok tt →
@@ -56,8 +56,8 @@ pub data Lists : ℕ → ℕ → List ℕ → List Entry → ℕ → ℕ → Typ
 
 -- how an entry is printed
 abbrev pub printed : Entry → List ℕ
-printed (order block line bytes) = codes "block " ++ (decimal block ++ (codes " line " ++ (decimal line ++ (codes ": " ++ (bytes ++ (10 ∷ []))))))
-printed (refused refusal block line) = codes "refused " ++ (decimal (numberOf refusal) ++ (codes " block " ++ (decimal block ++ (codes " line " ++ (decimal line ++ (10 ∷ []))))))
+printed (orderAt block line bytes) = codes "block " ++ (decimal block ++ (codes " line " ++ (decimal line ++ (codes ": " ++ (bytes ++ (10 ∷ []))))))
+printed (refusedAt refusal block line) = codes "refused " ++ (decimal (numberOf refusal) ++ (codes " block " ++ (decimal block ++ (codes " line " ++ (decimal line ++ (10 ∷ []))))))
 
 -- and the last line
 abbrev pub summary : ℕ → ℕ → ℕ → List ℕ
@@ -66,8 +66,8 @@ summary blocks lines refusals = codes "blocks " ++ (decimal blocks ++ (codes " l
 -- how many entries are refusals
 abbrev pub refusalsIn : List Entry → ℕ
 refusalsIn [] = 0
-refusalsIn (order block line bytes ∷ entries) = refusalsIn entries
-refusalsIn (refused refusal block line ∷ entries) = 1 + refusalsIn entries
+refusalsIn (orderAt block line bytes ∷ entries) = refusalsIn entries
+refusalsIn (refusedAt refusal block line ∷ entries) = 1 + refusalsIn entries
 
 -- the text lists the job
 pub record Listed (job text : List ℕ) (refusals : ℕ) : Type 0 where
@@ -78,8 +78,8 @@ pub record Listed (job text : List ℕ) (refusals : ℕ) : Type 0 where
   pub counts : refusals ≡ refusalsIn entries
   pub prints : text ≡ joined printed entries ++ summary blocks lines refusals
 
--- for the private functions: the lines of a block are printed behind what was printed before, with how many lines of the job there are then, and how
--- many of these were refused
+-- for the private functions: the lines of a block are printed behind what was printed before. Then there are so many
+-- lines of the job, and so many of the block's were refused.
 pub record Adds (block : List ℕ) (number before : ℕ) (was : List ℕ) (lines refusals : ℕ) (is : List ℕ) : Type 0 where
   pub entries : List Entry
   pub lists : ListsLines number before (cut (textOf block)) entries

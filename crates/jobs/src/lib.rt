@@ -4,7 +4,7 @@ ghost use mathlib.Core.List.{_++_};
 ghost use Prim.Native.Nat.{_+_, _^_, _<_};
 ghost use Rattle.std.specs.Of.Vec.{vec-items};
 ghost use Rattle.std.specs.Vec.{made};
-ghost use Rattle.jobs.specs.Listings.{Adds, Listed, order, refused, printed, summary};
+ghost use Rattle.jobs.specs.Listings.{Adds, Listed, orderAt, refusedAt, printed, summary};
 use blocks::BLOCK_SIZE;
 use blocks::Block;
 use blocks::Reader;
@@ -21,7 +21,7 @@ fn print_order(
     line: usize,
     bytes: &[u8],
 ) -> Result<(), AllocError>
-    ensures { λ r. ⌜ made r (λ _. vec-items (now (out .exit)) ≡ vec-items (now (out .entry)) ++ printed (order block line (now (bytes .entry)))) ⌝ }
+    ensures { λ r. ⌜ made r (λ _. vec-items (now (out .exit)) ≡ vec-items (now (out .entry)) ++ printed (orderAt block line (now (bytes .entry)))) ⌝ }
 {
     let place = format!(heap, "block {block} line {line}: ")?;
     out.extend_from_slice(place.as_bytes())?;
@@ -37,7 +37,7 @@ fn print_refusal(
     block: usize,
     line: usize,
 ) -> Result<(), AllocError>
-    ensures { λ r. ⌜ made r (λ _. vec-items (now (out .exit)) ≡ vec-items (now (out .entry)) ++ printed (refused refusal block line)) ⌝ }
+    ensures { λ r. ⌜ made r (λ _. vec-items (now (out .exit)) ≡ vec-items (now (out .entry)) ++ printed (refusedAt refusal block line)) ⌝ }
 {
     let number = refusal.number();
     let text = format!(heap, "refused {number} block {block} line {line}\n")?;

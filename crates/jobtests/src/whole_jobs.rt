@@ -2,6 +2,7 @@
 use blocks::BLOCK_SIZE;
 use blocks::PackError;
 use blocks::PackErrorDebug;
+use blocks::PackErrorDisplay;
 use blocks::pack;
 use blocks::split_lines;
 use jobs::list_job;
@@ -67,6 +68,25 @@ fn lines_that_just_fit(rt: LibcRuntime) -> Result<(), Fail> {
         pack(rt.alloc(), &[b"a\nb"]),
         Err(PackError::LineBroken { line: 0 })
     ))
+}
+
+// Whether packing these lines fails, and says this.
+fn fails(heap: Global, lines: &[&[u8]], text: &str) -> Result<(), Fail> {
+    match pack(heap, lines) {
+        Ok(_) => Err(Fail::new("the lines were packed")),
+        Err(e) => check(format!(heap, "{e}")?.as_str() == text),
+    }
+}
+
+#[test]
+fn what_people_are_told(rt: LibcRuntime) -> Result<(), Fail> {
+    let longer = [b'a'; 504];
+    fails(
+        rt.alloc(),
+        &[b"fill", &longer],
+        "line 2 has more than 503 bytes",
+    )?;
+    fails(rt.alloc(), &[b"a\nb"], "line 1 holds a line break")
 }
 
 #[test]
