@@ -64,7 +64,8 @@ pub struct Listing {
     pub refused: usize,
 }
 
-// Lists the lines of a block, where `before` lines of the job came before, and answers how many were refused.
+// Lists the lines of a block, where `before` lines of the job came before. Answers how many lines of the job there are
+// then, and how many of the block's were refused.
 fn list_lines(
     heap: Global,
     out: &mut Vec<u8>,
