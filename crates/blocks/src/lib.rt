@@ -1,4 +1,6 @@
 // Job files as blocks of 512 bytes: their check, the lines that they hold, and how lines are packed into them.
+#![tactic(auto)]
+
 mod bytes;
 mod check;
 mod packing;

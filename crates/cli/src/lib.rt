@@ -1,6 +1,8 @@
 // What the programs share: where their input comes from, and what they say where something fails. No contract can say
 // what a program reads or prints, so these functions are proved to be safe and to end, and what they do is tested by
 // running the programs.
+#![tactic(auto)]
+
 ghost use Rattle.std.specs.Prelude.{◌≡◌};
 
 use anyhow::anyhow;

@@ -1,4 +1,6 @@
 // Lists a job file: each order and each refusal with its place, and a summary.
+#![tactic(auto)]
+
 use anyhow::anyhow;
 use cli::{explained, input};
 use jobs::list_job;

@@ -1,4 +1,6 @@
 // Packs lines of text into the blocks of a job file.
+#![tactic(auto)]
+
 use blocks::{pack, split_lines};
 use cli::{explained, input};
 

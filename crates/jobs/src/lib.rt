@@ -1,4 +1,6 @@
 // Whole jobs: every line of every block, listed with its place.
+#![tactic(auto)]
+
 ghost use Rattle.std.specs.Prelude.{◌≡◌, ◌+◌, ◌^◌, ◌<◌, ◌++◌, IfOk, OnOk};
 ghost use Rattle.jobs.specs.Listings.{Adds, Listed, order_at, refused_at, printed, summary};
 

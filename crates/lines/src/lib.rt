@@ -1,4 +1,6 @@
 // The lines of a job: which bytes are an order, and what it says.
+#![tactic(auto)]
+
 ghost use Rattle.std.specs.Prelude.{◌++◌};
 ghost use Rattle.lines.specs.Grammar.{Reads, OneReading};
 ghost use Rattle.lines.specs.Orders.{OrderIn, TextIn, KindIn};

@@ -1,4 +1,6 @@
 // What lists of triangles weigh, under any tariff and any kind of weight.
+#![tactic(auto)]
+
 ghost use Rattle.std.specs.Prelude.{◌≡◌, List};
 ghost use Rattle.std.specs.List.Sorted.{IsPermutation};
 ghost use Rattle.terms.specs.declared.triangles.Triangle.{Triangle};

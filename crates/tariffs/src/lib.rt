@@ -1,4 +1,6 @@
 // Tariffs: what gives the triangles and folds of a loop their prices, and how it may change.
+#![tactic(auto)]
+
 ghost use Rattle.std.specs.Prelude.{◌≡◌, false, [], is_ok};
 ghost use Rattle.tariffs.specs.declared.calls.Change.TheVariants.{Amend, Exchange};
 ghost use Rattle.tariffs.specs.Views.{Amended, Exchanged, Proper, View};

@@ -1,4 +1,6 @@
 // A tiny tariff that keeps the laws, and examples of triangles, weights, tariffs and prices at their edges.
+#![tactic(auto)]
+
 mod lent;
 #[cfg(test)]
 mod price_edges;

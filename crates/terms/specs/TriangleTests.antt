@@ -1,5 +1,5 @@
 -- The tests of triangles and folds tell what they are to tell.
-use Rattle.std.specs.Prelude.{◌≡◌, ℕ, true, ◌&&◌, ◌||◌, ltb, nat_lt}
+use Rattle.std.specs.Prelude.{◌≡◌, ℕ, true, ◌&&◌, ◌||◌, nat_lt}
 use Rattle.std.proofs.Common.{inl, inr}
 use Rattle.std.proofs.lemmas.Bool.{and_parts, ltb-true, or_cases}
 use Rattle.terms.specs.declared.triangles.Triangle.{Triangle}
@@ -14,8 +14,8 @@ triangle_of n t e =
 
 pub fold_of : (n : ℕ) (f : Fold) → is_fold_of n f ≡ true → FoldOf n f
 fold_of n f e =
-    let below = ltb f.outer f.inner.low in
-    let above = ltb f.inner.high f.outer in
+    let below = nat_lt f.outer f.inner.low in
+    let above = nat_lt f.inner.high f.outer in
     let p = and_parts (is_triangle_of n f.inner) (nat_lt f.outer n && (below || above)) e in
     let q = and_parts (nat_lt f.outer n) (below || above) p.1 in (
       triangle_of n f.inner p.0,

@@ -1,4 +1,6 @@
 // The words that every part of Mokdriz shares: triangles and folds of a loop, limits, and the sixteen refusals.
+#![tactic(auto)]
+
 ghost use Rattle.std.specs.Prelude.{◌≡◌};
 ghost use Rattle.terms.specs.Refusals.{number_of};
 

@@ -1,4 +1,6 @@
 // Kinds of weight: what makes one fill lighter than another.
+#![tactic(auto)]
+
 ghost use Rattle.std.specs.Prelude.{◌≡◌};
 ghost use Rattle.weights.specs.Kinds.{Kind, Lawful};
 
