@@ -13,31 +13,31 @@ loop-line-init c =
     rw all (along_none block c.args.number c.args.before (vec_items c.args.out.now))
 
 -- the line at hand, and those behind it
-ahead : (c : In-Some) → Along c.args.block.now c.args.number c.args.before (vec_items c.args.out.now) (c.in-Some.line.bytes.now ∷ bytes_of (to_come c.next-line.new.self)) c.loop-line.lines c.loop-line.refused (vec_items c.loop-line.out)
+ahead : (c : In-Some) → Along c.args.block.now c.args.number c.args.before (vec_items c.args.out.now) (c.in-Some.line.bytes.now ∷ bytes_of (to_come c.next_line.new.self)) c.loop-line.lines c.loop-line.refused (vec_items c.loop-line.out)
 ahead c = rw (sym (ap bytes_of c.in-Some.ensures.0)) c.loop-line.invariant
 
 room : (c : In-Some) → c.loop-line.lines + 1 ≤ c.args.before + 504
 room c = omega (arith, (ahead c).reaches, few_lines c.args.block.now)
 
-pub overflow-add-lines : goal.overflow-add-lines
-overflow-add-lines c = let r = room c in search rules
+pub overflow_add-lines : goal.overflow_add-lines
+overflow_add-lines c = let r = room c in search rules
 
 pub loop-line-preserved-in-Continue· : goal.loop-line-preserved-in-Continue·
 loop-line-preserved-in-Continue· c =
-    rw c.in-ok-print-order.ensures
+    rw c.in_ok-print_order.ensures
     (along_order _ _ _ _ _ _ _ _ _ _ (ahead (goal.at.loop-line-preserved-in-Continue· c).In-Some) c.in-Ok.ensures.reads)
 
-pub overflow-add-refused : goal.overflow-add-refused
-overflow-add-refused c =
-    let r = room (goal.at.overflow-add-refused c).In-Some in
+pub overflow_add-refused : goal.overflow_add-refused
+overflow_add-refused c =
+    let r = room (goal.at.overflow_add-refused c).In-Some in
     let few = c.loop-line.invariant.few in
     search rules
 
 pub loop-line-preserved : goal.loop-line-preserved
 loop-line-preserved c =
-    rw (c.in-ok-print-refusal.ensures, c.in-Err.ensures.reads.0)
+    rw (c.in_ok-print_refusal.ensures, c.in-Err.ensures.reads.0)
     (along_refused _ _ _ _ _ _ _ _ _ (ahead (goal.at.loop-line-preserved c).In-Some) c.in-Err.ensures.reads.1)
 
 pub returns : goal.returns
 returns c =
-    along_all _ _ _ _ _ _ _ (rw (sym (ap bytes_of c.in-default.ensures.0)) c.loop-line.invariant)
+    along_all _ _ _ _ _ _ _ (rw (sym (ap bytes_of c.in_default.ensures.0)) c.loop-line.invariant)

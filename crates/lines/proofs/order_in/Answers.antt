@@ -1,5 +1,5 @@
 use Rattle.lines.proofs.Readings.{no_front}
 use Rattle.lines.proofs.order_in.Goals as goal
 
-pub returns-in-err-word : goal.returns-in-err-word
-returns-in-err-word c = rw c.from-residual.ensures (no_front c.args.bytes.now c.in-err-word.ensures)
+pub returns-in_err-word : goal.returns-in_err-word
+returns-in_err-word c = rw c.from_residual.ensures (no_front c.args.bytes.now c.in_err-word.ensures)

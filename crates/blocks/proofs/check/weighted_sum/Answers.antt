@@ -6,8 +6,8 @@ use Rattle.blocks.proofs.check.weighted_sum.Goals as goal
 share : (p b : ℕ) → p < 508 → b < 256 → (p + 1) * b ≤ 129540
 share p b h k = mul-le-mul (let l : p + 1 ≤ 508 = omega arith in l) (let m : b ≤ 255 = omega arith in m)
 
-pub overflow-add-sum-in-loop-p : goal.overflow-add-sum-in-loop-p
-overflow-add-sum-in-loop-p c =
+pub overflow_add-sum-in-loop-p : goal.overflow_add-sum-in-loop-p
+overflow_add-sum-in-loop-p c =
     let xs = c.args.bytes.now in
     let b : get_or xs c.loop-p.p 0 < 256 = search rules in
     let s = share c.loop-p.p (get_or xs c.loop-p.p 0) (omega arith) b in

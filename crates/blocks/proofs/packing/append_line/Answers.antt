@@ -4,5 +4,5 @@ use Rattle.blocks.proofs.packing.append_line.Goals as goal
 
 pub returns : goal.returns
 returns c =
-    let a = pushed c.args.line.now refl c.in-ok-extend-from-slice.was c.extend-from-slice.ensures.items in
-    pushed (10 ∷ []) a c.in-ok-extend-from-slice-2.was c.extend-from-slice-2.ensures.items ∙ append_assoc (vec_items c.args.text.now) c.args.line.now (10 ∷ [])
+    let a = pushed c.args.line.now refl c.in_ok-extend_from_slice.was c.extend_from_slice.ensures.items in
+    pushed (10 ∷ []) a c.in_ok-extend_from_slice-2.was c.extend_from_slice-2.ensures.items ∙ append_assoc (vec_items c.args.text.now) c.args.line.now (10 ∷ [])

@@ -6,13 +6,13 @@ use Rattle.blocks.specs.Packing.{checked}
 use Rattle.blocks.proofs.Cuts.{lent_from}
 use Rattle.blocks.proofs.packing.check_lines.Goals as goal
 
-pub returns-then-line-gt-LINE-MAX : goal.returns-then-line-gt-LINE-MAX
-returns-then-line-gt-LINE-MAX c =
+pub returns-then-line-gt-LINE_MAX : goal.returns-then-line-gt-LINE_MAX
+returns-then-line-gt-LINE_MAX c =
     let e = ap (checked c.loop-i.i) (lent_from c.args.lines.now c.loop-i.i c.loop-i-test.true) in
     grind (arith, nat_tests)
 
-pub returns-then-len-before-line : goal.returns-then-len-before-line
-returns-then-len-before-line c =
+pub returns-then-len_before-line : goal.returns-then-len_before-line
+returns-then-len_before-line c =
     let e = ap (checked c.loop-i.i) (lent_from c.args.lines.now c.loop-i.i c.loop-i-test.true) in
     grind (arith, nat_tests)
 

@@ -17,5 +17,5 @@ returns-in-99 c = (search rules, take_rest c.args.bytes.now 6)
 pub returns-in-99-2 : goal.returns-in-99-2
 returns-in-99-2 c = (search rules, take_rest c.args.bytes.now 5)
 
-pub returns-in-default : goal.returns-in-default
-returns-in-default c = none_first laying c.args.bytes.now (λ r. grind arith, (λ r. grind arith, (λ r. grind arith, (λ r. grind arith, tt))))
+pub returns-in_default : goal.returns-in_default
+returns-in_default c = none_first laying c.args.bytes.now (λ r. grind arith, (λ r. grind arith, (λ r. grind arith, (λ r. grind arith, tt))))

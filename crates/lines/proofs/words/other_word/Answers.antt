@@ -14,5 +14,5 @@ returns-in-102 c = (search rules, take_rest c.args.bytes.now 4)
 pub returns-in-115 : goal.returns-in-115
 returns-in-115 c = (search rules, take_rest c.args.bytes.now 8)
 
-pub returns-in-default : goal.returns-in-default
-returns-in-default c = none_first others c.args.bytes.now (λ r. grind arith, (λ r. grind arith, (λ r. grind arith, tt)))
+pub returns-in_default : goal.returns-in_default
+returns-in_default c = none_first others c.args.bytes.now (λ r. grind arith, (λ r. grind arith, (λ r. grind arith, tt)))

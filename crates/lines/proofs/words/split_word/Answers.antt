@@ -15,8 +15,8 @@ last bytes (Some p) h k l = parts others bytes p l
 pub returns-in-Some : goal.returns-in-Some
 returns-in-Some c = parts laying c.args.bytes.now c.in-Some.split c.in-Some.ensures
 
-pub returns-in-Some-changing-word : goal.returns-in-Some-changing-word
-returns-in-Some-changing-word c = parts changing c.args.bytes.now c.in-Some-changing-word.split c.in-Some-changing-word.ensures
+pub returns-in-Some-changing_word : goal.returns-in-Some-changing_word
+returns-in-Some-changing_word c = parts changing c.args.bytes.now c.in-Some-changing_word.split c.in-Some-changing_word.ensures
 
 pub returns : goal.returns
-returns c = last c.args.bytes.now c.other-word.result c.in-default.ensures c.in-default-changing-word.ensures c.other-word.ensures
+returns c = last c.args.bytes.now c.other_word.result c.in_default.ensures c.in_default-changing_word.ensures c.other_word.ensures

@@ -10,17 +10,17 @@ pub returns-then-from-text : goal.returns-then-from-text
 returns-then-from-text c =
     let text = text_of c.args.self.now.block.now in
     let from = c.args.self.now.done in
-    let past : length text ≤ from = omega (arith, ap length c.text-of-text.ensures) in
+    let past : length text ≤ from = omega (arith, ap length c.text_of-text.ensures) in
     (ap (λ l. placed (4 + from) (cut l)) (drop_all from text past), refl)
 
 pub returns : goal.returns
 returns c =
-    let text = c.text-of-text.result.now in
+    let text = c.text_of-text.result.now in
     let from = c.args.self.now.done in
-    let n = c.len-before-n.result in
-    let same : text_of c.args.self.now.block.now ≡ text = sym c.text-of-text.ensures in
+    let n = c.len_before-n.result in
+    let same : text_of c.args.self.now.block.now ≡ text = sym c.text_of-text.ensures in
     let rest = take_rest text from in
-    let e : n ≡ prefix_len in_line (drop from text) = c.len-before-n.ensures.value ∙ ap (prefix_len in_line) rest in
+    let e : n ≡ prefix_len in_line (drop from text) = c.len_before-n.ensures.value ∙ ap (prefix_len in_line) rest in
     let none : n - 0 ≡ n = omega arith in
     let first = placed_first text from n c.if-from-text.false e in
     let line : take (n - 0) (take (length text - from) (drop from text)) ≡ take n (drop from text) = ap (λ k. take k (take (length text - from) (drop from text))) none ∙ ap (take n) rest in
