@@ -6,7 +6,6 @@
 ghost use Rattle.std.specs.Prelude.{◌≡◌};
 
 use anyhow::anyhow;
-use std::alloc::{AllocError, Global};
 use std::io::Read;
 use std::{env, fs, io};
 
@@ -28,13 +27,12 @@ pub fn input(rt: &HostRuntime, help: &str) -> anyhow::Result<Option<Vec<u8>>> {
     }
     match fs::read(rt, name) {
         Ok(bytes) => Ok(Some(bytes)),
-        Err(e) => Err(unreadable(rt.alloc(), name, e)?),
+        Err(e) => Err(unreadable(name, e)),
     }
 }
 
-fn unreadable(heap: Global, name: &str, e: io::Error) -> Result<anyhow::Error, AllocError> {
-    let text = format!(in heap; "{name}: {e}")?;
-    Ok(text.into())
+fn unreadable(name: &str, e: io::Error) -> anyhow::Error {
+    anyhow!("{name}: {e}")
 }
 
 fn standard_input(rt: &HostRuntime) -> anyhow::Result<Vec<u8>> {
@@ -44,11 +42,15 @@ fn standard_input(rt: &HostRuntime) -> anyhow::Result<Vec<u8>> {
 }
 
 // Hands a program's result on, and says on standard error what went wrong.
-pub fn explained<T>(rt: &HostRuntime, program: &str, res: anyhow::Result<T>) -> anyhow::Result<T>
-    ensures { result ≡ res }
+pub fn explained<T>(
+    rt: &HostRuntime,
+    program: &str,
+    outcome: anyhow::Result<T>,
+) -> anyhow::Result<T>
+    ensures { result ≡ outcome }
 {
-    if let Err(e) = &res {
+    if let Err(e) = &outcome {
         let _ = eprintln!(rt; "{program}: {e}");
     }
-    res
+    outcome
 }
