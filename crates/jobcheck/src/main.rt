@@ -1,9 +1,9 @@
 // Lists a job file: each order and each refusal with its place, and a summary.
 #![tactic(auto)]
 
-use anyhow::anyhow;
 use cli::{explained, input};
 use jobs::list_job;
+use std::process::ExitCode;
 
 const HELP: &str = "jobcheck [FILE]
 Lists the job in FILE, or on standard input: each order and each refusal with its block and line, then a summary.
@@ -19,9 +19,9 @@ fn run(rt: &HostRuntime) -> anyhow::Result<bool> {
     Ok(listing.refused == 0)
 }
 
-fn main(rt: HostRuntime) -> anyhow::Result<()> {
-    if explained(&rt, "jobcheck", run(&rt))? {
-        return Ok(());
+fn main(rt: HostRuntime) -> ExitCode {
+    match explained(&rt, "jobcheck", run(&rt)) {
+        Ok(true) => ExitCode::SUCCESS,
+        _ => ExitCode::FAILURE,
     }
-    Err(anyhow!("something was refused"))
 }

@@ -3,6 +3,7 @@
 
 use blocks::{pack, split_lines};
 use cli::{explained, input};
+use std::process::ExitCode;
 
 const HELP: &str = "jobpack [FILE]
 Packs the lines of FILE, or of standard input, into the blocks of a job, and writes it to standard output.
@@ -18,6 +19,9 @@ fn run(rt: &HostRuntime) -> anyhow::Result<()> {
     Ok(())
 }
 
-fn main(rt: HostRuntime) -> anyhow::Result<()> {
-    explained(&rt, "jobpack", run(&rt))
+fn main(rt: HostRuntime) -> ExitCode {
+    match explained(&rt, "jobpack", run(&rt)) {
+        Ok(()) => ExitCode::SUCCESS,
+        Err(_) => ExitCode::FAILURE,
+    }
 }

@@ -14,7 +14,7 @@ returns-in-Err c =
     let lines = c.loop-rest.lines in
     let refusals = c.loop-rest.refused in
     IfOk-weaker c.finish.result _ _ (λ l f.
-    let text = f.0 ∙ ap (λ t. t ++ summary blocks lines (refusals + 1)) c.in_ok-print_refusal.ensures in
+    let text = f.0 ∙ ap (λ t. t ++ summary blocks lines (refusals + 1)) c.in_ok-print_refusal-in-Err.ensures in
     subst (Listed c.args.job.now (vec_items l.text)) (sym f.1) (job_stops _ _ _ _ blocks lines refusals c.in-Err.refusal c.loop-rest.invariant (omega (arith, some)) c.in-Err.ensures text)) c.finish.ensures
 
 -- a block is listed

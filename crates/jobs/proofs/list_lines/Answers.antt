@@ -22,10 +22,10 @@ room c = omega (arith, (ahead c).reaches, few_lines c.args.block.now)
 pub overflow_add-lines : goal.overflow_add-lines
 overflow_add-lines c = let r = room c in search rules
 
-pub loop-line-preserved-in-Continue· : goal.loop-line-preserved-in-Continue·
-loop-line-preserved-in-Continue· c =
-    rw c.in_ok-print_order.ensures
-    (along_order _ _ _ _ _ _ _ _ _ _ (ahead (goal.at.loop-line-preserved-in-Continue· c).In-Some) c.in-Ok.ensures.reads)
+pub loop-line-preserved-in-Continue-1 : goal.loop-line-preserved-in-Continue-1
+loop-line-preserved-in-Continue-1 c =
+    rw c.in_ok-print_order-in-Ok.ensures
+    (along_order _ _ _ _ _ _ _ _ _ _ (ahead (goal.at.loop-line-preserved-in-Continue-1 c).In-Some) c.in-Ok.ensures.reads)
 
 pub overflow_add-refused : goal.overflow_add-refused
 overflow_add-refused c =
@@ -35,7 +35,7 @@ overflow_add-refused c =
 
 pub loop-line-preserved : goal.loop-line-preserved
 loop-line-preserved c =
-    rw (c.in_ok-print_refusal.ensures, c.in-Err.ensures.reads.0)
+    rw (c.in_ok-print_refusal-in-Err.ensures, c.in-Err.ensures.reads.0)
     (along_refused _ _ _ _ _ _ _ _ _ (ahead (goal.at.loop-line-preserved c).In-Some) c.in-Err.ensures.reads.1)
 
 pub returns : goal.returns
