@@ -94,7 +94,7 @@ fn lines_with_their_places(rt: HostRuntime) -> Result<(), Fail> {
     let mut reader = Reader::new(&block);
     let first = reader.next_line().ok_or("no line")?;
     assert_eq!(rt; first.offset, 4);
-    assert!(rt; first.bytes == b"use 1");
+    assert!(rt; first.bytes == b"use 1".as_slice());
     let second = reader.next_line().ok_or("no line")?;
     assert_eq!(rt; second.offset, 10);
     assert!(rt; second.bytes.is_empty());
