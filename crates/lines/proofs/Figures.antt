@@ -1,6 +1,6 @@
 -- Numbers in decimal, and numbers one after another: what `parse` reads of a word of the right form, and that a
 -- number and what follows it are found in one way.
-use Rattle.std.proofs.Common.{◌≡◌, ℕ, zero, suc, ◌+◌, ◌^◌, ◌<◌, ◌≤◌, Bool, ◌⊎◌, List, [], ◌∷◌, ◌++◌, length, get_or, take, drop, ℤ, pos, negsuc, neg_ℤ, nat_abs, Some, Ok, Err, codes, IsUtf8, decimal, Option, Result, sym, refl, ap, ◌∙◌, subst, inl, inr, arith, w64, to_z, of_z}
+use Rattle.std.proofs.Common.{◌≡◌, ℕ, zero, suc, ◌^◌, ◌<◌, ◌≤◌, Bool, ◌⊎◌, List, [], ◌∷◌, ◌++◌, length, get_or, take, drop, ℤ, pos, negsuc, neg_ℤ, nat_abs, Some, Ok, Err, codes, IsUtf8, decimal, Option, Result, sym, refl, ap, ◌∙◌, subst, inl, inr, arith, w64, to_z, of_z}
 use lib.Signed.{mag}
 use Rattle.std.specs.Str.Parse.{AllDigits, digits_value, ParsesSigned}
 use Rattle.std.specs.Result.{result_ok}

@@ -3,7 +3,6 @@ use Rattle.std.proofs.lemmas.List.{append-nil, take_rest, drop_all, length-drop,
 use Rattle.std.proofs.lemmas.Bool.{eqb-true, eqb-false}
 use Rattle.blocks.specs.Lines.{cut, lent}
 use Rattle.blocks.proofs.Cuts.{cut_more, lent_push}
-use Rattle.blocks.proofs.reader.split_lines.Given as given
 use Rattle.blocks.proofs.reader.split_lines.Goals as goal
 use Rattle.blocks.proofs.reader.split_lines.Goals.{In_ok-push}
 
