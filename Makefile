@@ -1,12 +1,16 @@
-# make run    build jobcheck and list the example job
-# make test   the whole gate: every proof, every must-fail edit, the programs and the tests
-.PHONY: run test
+# make run       prove and build jobcheck, and list the example job
+# make programs  prove and build jobcheck and jobpack
+# make test      the whole gate: every proof, every must-fail edit, the programs and the tests
+.PHONY: run programs test
 
 run:
 	@mkdir -p target
 	@echo 'proving and building jobcheck (some minutes the first time)'
-	@rt check jobcheck > target/run.log 2>&1 || { cat target/run.log; exit 1; }
-	./target/bin/jobcheck examples/dome.job
+	@cd crates/jobcheck && rt run -- $(CURDIR)/examples/dome.job 2> $(CURDIR)/target/run.log || { cat $(CURDIR)/target/run.log; exit 1; }
+
+programs:
+	cd crates/jobcheck && rt run -- --help
+	cd crates/jobpack && rt run -- --help
 
 test:
-	rt ci
+	.ci/run

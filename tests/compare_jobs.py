@@ -3,7 +3,7 @@
 
   compare_jobs.py [COUNT [START]]     COUNT jobs (default 2000), from the random numbers that START gives (default 1)
 
-Build the programs first: rt check jobcheck jobpack
+Build the programs first: make programs
 """
 import random
 import re
@@ -12,7 +12,7 @@ import subprocess
 import sys
 from pathlib import Path
 
-BIN = Path(__file__).resolve().parent.parent / 'target' / 'bin'
+CRATES = Path(__file__).resolve().parent.parent / 'crates'
 NUMBER = rb'(?:0|-?[1-9][0-9]{0,9})'
 COUNTS = {b'head': 3, b'use': 1, b'corner': 3, b'move': 4, b'ban': 3, b'lift': 3, b'fill': 0, b'standing': 0}
 ORDERS = [re.compile(word + (rb' ' + NUMBER) * count, re.S) for word, count in COUNTS.items()]
@@ -119,7 +119,7 @@ class Jobs:
 
 
 def run(program, given):
-    return subprocess.run([BIN / program], input=given, capture_output=True)
+    return subprocess.run([CRATES / program / 'out' / program], input=given, capture_output=True)
 
 
 def main():

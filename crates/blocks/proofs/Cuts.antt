@@ -1,6 +1,6 @@
 -- A text and the lines that it is cut into.
 use Rattle.std.proofs.Common.{◌≡◌, ℕ, suc, ◌+◌, ◌-◌, ◌<◌, Bool, true, false, cond, eqb, ltb, List, [], ◌∷◌, ◌++◌, length, get_or, take, drop, sym, refl, ap, ◌∙◌, add-one, one-add, arith, Bor}
-use Rattle.std.specs.List.{prefix_len, AllByRecursion as All}
+use Rattle.std.specs.List.{prefix_len, AllByRecursion}
 use Rattle.std.proofs.lemmas.List.{append_assoc, at_drop_more, length-drop, length-take-le, drop-drop, map_push}
 use Rattle.std.proofs.lemmas.List.Sums.{prefix_len-le-length}
 use Rattle.std.proofs.lemmas.Bool.{ltb-false, le-ltb, eqb-true, ne_eqb}
@@ -72,7 +72,7 @@ onto_text : (b : ℕ) (lines : List (List ℕ)) → 0 < length lines → text_fr
 onto_text b [] h = absurd (omega arith)
 onto_text b (line ∷ lines) h = refl
 
-onto_unbroken : (b : ℕ) (lines : List (List ℕ)) → eqb b 10 ≡ false → All Unbroken lines → All Unbroken (onto b lines)
+onto_unbroken : (b : ℕ) (lines : List (List ℕ)) → eqb b 10 ≡ false → AllByRecursion Unbroken lines → AllByRecursion Unbroken (onto b lines)
 onto_unbroken b [] q h = (rw q refl, tt)
 onto_unbroken b (line ∷ lines) q h = (rw q (omega (arith, h.0)), h.1)
 
@@ -94,7 +94,7 @@ ended_more b d bs h =
     let last : length (d ∷ bs) - 1 ≡ length bs = omega arith in
     ended_last d bs ∙ ap (λ k. eqb (get_or (d ∷ bs) k 0) 10) last ∙ ap (λ k. eqb (get_or (b ∷ d ∷ bs) k 0) 10) (sym first) ∙ sym (ended_last b (d ∷ bs)) ∙ h
 
-whole_by : (b : ℕ) (bs : List ℕ) (e : Bool) → eqb b 10 ≡ e → 0 < length (cut bs) → (text_from (cut bs) ≡ bs) × All Unbroken (cut bs) → (text_from (cut (b ∷ bs)) ≡ b ∷ bs) × All Unbroken (cut (b ∷ bs))
+whole_by : (b : ℕ) (bs : List ℕ) (e : Bool) → eqb b 10 ≡ e → 0 < length (cut bs) → (text_from (cut bs) ≡ bs) × AllByRecursion Unbroken (cut bs) → (text_from (cut (b ∷ bs)) ≡ b ∷ bs) × AllByRecursion Unbroken (cut (b ∷ bs))
 whole_by b bs true q some h = rw q (ap (λ t. 10 ∷ t) h.0 ∙ ap (λ k. k ∷ bs) (sym (eqb-true b 10 q)), (refl, h.1))
 whole_by b bs false q some h = rw q (onto_text b (cut bs) some ∙ ap (λ t. b ∷ t) h.0, onto_unbroken b (cut bs) q h.1)
 

@@ -1,6 +1,6 @@
 -- Words at the front of a line: which one it is, and that it is no other.
 use Rattle.std.proofs.Common.{◌≡◌, ℕ, suc, ◌+◌, ◌<◌, ◌≤◌, Bool, true, false, cond, List, [], ◌∷◌, ◌++◌, length, get_or, take, drop, Some, None, Option, sym, refl, ap, ◌∙◌, subst, inl, inr, arith}
-use Rattle.std.specs.List.{AllByRecursion as All}
+use Rattle.std.specs.List.{AllByRecursion}
 use Rattle.std.proofs.lemmas.Slice.Eq.{HasBytesAt, bytes_eq-Decides}
 use Rattle.std.proofs.lemmas.List.Prefix.{front_fits, front_reads}
 use Rattle.std.proofs.lemmas.List.{take-append-drop, append_cancel_left}
@@ -37,7 +37,7 @@ stands bytes w h =
 not_begins : (bytes : List ℕ) (w : Word) → (Stands bytes w → ⊥) → begins bytes w ≡ false
 not_begins bytes w h = elim (cases_Bool (begins bytes w)) [ inl y ↦ absurd (h (stands bytes w y)) | inr n ↦ n ]
 
-pub none_first : (ws : List Word) (bytes : List ℕ) → All (λ w. Stands bytes w → ⊥) ws → first_of ws bytes ≡ None
+pub none_first : (ws : List Word) (bytes : List ℕ) → AllByRecursion (λ w. Stands bytes w → ⊥) ws → first_of ws bytes ≡ None
 none_first [] bytes h = refl
 none_first (w ∷ ws) bytes h =
     cond-false (begins bytes w) (Some w) (first_of ws bytes) (not_begins bytes w h.0) ∙ none_first ws bytes h.1

@@ -1,7 +1,7 @@
 -- Orders: the word, the numbers and the text of each, and that a line spells one order at most.
 use Rattle.std.proofs.Common.{◌≡◌, ℕ, ◌<◌, cond, eqb, List, [], ◌∷◌, ◌++◌, length, get_or, drop, ℤ, pos, sym, refl, ap, ◌∙◌, arith}
 use Rattle.std.specs.Fmt.{signed_decimal}
-use Rattle.std.specs.List.{AllByRecursion as All}
+use Rattle.std.specs.List.{AllByRecursion}
 use Rattle.std.proofs.lemmas.List.{append_assoc, append-nil, nil_from_length}
 use Rattle.lines.specs.declared.Kind.{Kind}
 use Rattle.lines.specs.declared.Kind.TheVariants.{Sum, Worst, SumWorst}
@@ -65,7 +65,7 @@ written_parts (lift i k j) = bare Lift (i ∷ k ∷ j ∷ [])
 written_parts fill = refl
 written_parts standing = refl
 
-shorts : (o : Order) → Lawful o → All Short (numbers_of o)
+shorts : (o : Order) → Lawful o → AllByRecursion Short (numbers_of o)
 shorts (note text) h = tt
 shorts (head serial reach stiffness) h = (h.0, (h.1, (h.2, tt)))
 shorts (in_use serial) h = (h, tt)
@@ -150,7 +150,7 @@ ends_after : (zs : List ℤ) (t : List ℕ) → Ends t → Ends (spaced zs ++ t)
 ends_after [] t e = e
 ends_after (z ∷ zs) t e = λ h. refl
 
-same_numbers : (zs ys : List ℤ) (t s : List ℕ) → length zs ≡ length ys → All Short zs → All Short ys → Ends t → Ends s → spaced zs ++ t ≡ spaced ys ++ s → (zs ≡ ys) × (t ≡ s)
+same_numbers : (zs ys : List ℤ) (t s : List ℕ) → length zs ≡ length ys → AllByRecursion Short zs → AllByRecursion Short ys → Ends t → Ends s → spaced zs ++ t ≡ spaced ys ++ s → (zs ≡ ys) × (t ≡ s)
 same_numbers [] [] t s l a b d e h = (refl, h)
 same_numbers [] (y ∷ ys) t s l a b d e h = absurd (omega arith)
 same_numbers (z ∷ zs) [] t s l a b d e h = absurd (omega arith)

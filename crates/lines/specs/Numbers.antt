@@ -2,7 +2,7 @@
 -- public definition of a line is in Grammar. Assumes nothing.
 use Rattle.std.specs.Prelude.{◌≡◌, ℕ, ◌<◌, ◌≤◌, List, ◌++◌, length, ℤ, codes, Option, MatchOption, ◌≢◌, slice_index, slice_index_or}
 use Rattle.std.specs.Borrow.{Bor}
-use Rattle.std.specs.List.{AllByRecursion as All}
+use Rattle.std.specs.List.{AllByRecursion}
 use Rattle.std.specs.Fmt.{signed_decimal}
 use Rattle.lines.specs.Grammar.{Short, spaced}
 
@@ -31,7 +31,7 @@ NextIn bytes r = MatchOption r ((z : ℤ) (more : List ℕ) → Leads bytes z mo
 
 -- the bytes are these numbers, all of at most ten digits
 abbrev pub Lists : List ℕ → List ℤ → Type 0
-Lists bytes zs = All Short zs × (bytes ≡ spaced zs)
+Lists bytes zs = AllByRecursion Short zs × (bytes ≡ spaced zs)
 
 -- the bytes are not so many numbers
 abbrev pub NoneOf : ℕ → List ℕ → Type 0
