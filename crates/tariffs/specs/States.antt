@@ -1,12 +1,12 @@
 -- A meaning given by states: what is answered in each, and the state that an accepted change leaves.
 use Rattle.std.specs.Prelude.{◌≡◌, ℕ, Bool, true, false, cond, [], ◌∷◌, ℤ, Ok, Err, refl}
-use Rattle.std.proofs.Common.{sym, ap, arith}
+use Rattle.std.proofs.Common.{sym, ap}
 use Rattle.terms.specs.declared.Refusal.{Refusal}
 use Rattle.terms.specs.declared.Refusal.TheVariants.{SerialUnknown}
 use Rattle.tariffs.specs.declared.calls.Change.{Change}
 use Rattle.tariffs.specs.declared.calls.Change.TheVariants.{Amend, Exchange}
 use Rattle.tariffs.specs.Views.{AmendRefusal, Amended, Answer, Exchanged, OnlyAt, Proper, PutInUse}
-use Rattle.tariffs.specs.Meanings.{Meaning, Obeys, Outlook, after}
+use Rattle.tariffs.specs.Meanings.{Meaning, Obeys, Outlook}
 
 abbrev pub if_accepted : {S : Type 0} → Answer → S → S → S
 if_accepted (Ok _) new old = new
@@ -44,8 +44,8 @@ module _ {S : Type 0} (outlook : S → Outlook) (accepted : S → Change → S) 
       → ((outlook before).view.knows n ≡ true → PutInUse n (outlook before).view (outlook new).view)
       → Exchanged a n (outlook before).view (outlook (if_accepted a new before)).view
   exchanges (Ok u) n true before new e f h = h (sym f)
-  exchanges (Ok u) n false before new e f h = let z : ◌≡◌ {A = ℕ} 0 1 = cc in absurd (omega arith)
-  exchanges (Err d) n true before new e f h = let z : ◌≡◌ {A = ℕ} 0 1 = cc in absurd (omega arith)
+  exchanges (Ok u) n false before new e f h = absurd (cc)
+  exchanges (Err d) n true before new e f h = absurd (cc)
   exchanges (Err d) n false before new e f h = (sym f, (let k : d ≡ SerialUnknown = cc in k), refl)
 
   pub obeys : (s : S) → Sound s → Obeys (meant s)
