@@ -1,7 +1,7 @@
 -- The dearest of a list, one triangle after another.
-use Rattle.std.proofs.Common.{◌≡◌, ℕ, ◌+◌, ◌<◌, ◌≤◌, true, false, List, length, get_or, take, Some, None, Option, sym, ap, ◌∙◌, inl, inr, arith}
-use Rattle.std.specs.List.{ContainsAt as Has, AllByRecursion as All}
-use Rattle.std.proofs.ByRecursion.{All-more, All-weaker, has_get_or}
+use Rattle.std.proofs.Common.{◌≡◌, ℕ, ◌+◌, ◌<◌, ◌≤◌, true, false, List, length, get_or, take, Some, None, Option, sym, ap, ◌∙◌, inl, inr}
+use Rattle.std.specs.Prelude.{All, Contains}
+use Rattle.std.proofs.lemmas.List.Elements.{All-more, All-weaker, Contains-get_or}
 use Rattle.std.proofs.lemmas.List.{take_all}
 use Rattle.std.proofs.lemmas.Bool.{both_ways, cond_both}
 use Rattle.terms.specs.declared.triangles.Triangle.{Triangle}
@@ -10,7 +10,7 @@ use Rattle.tariffs.specs.Views.{View}
 use Rattle.pricing.specs.Prices.{Dearest, NotAbove, larger, weighed}
 
 nothing_is_some : {X : Type 0} {P : Type 0} (p : X) → ◌≡◌ {A = Option X} None (Some p) → P
-nothing_is_some p e = let z : ◌≡◌ {A = ℕ} 0 1 = cc in absurd (omega arith)
+nothing_is_some p e = absurd (cc)
 
 module _ {W : Type 0} {kind : Kind W} (lawful : Lawful kind) (view : View) where
   reflexive : (a : W) → kind.not_above a a ≡ true
@@ -22,13 +22,10 @@ module _ {W : Type 0} {kind : Kind W} (lawful : Lawful kind) (view : View) where
   -- the dearest of those seen, which are listed in ts
   abbrev Among : List Triangle → List Triangle → Option (Triangle × W) → Type 0
   Among ts seen None = All (λ t. view.price t ≡ None) seen
-  Among ts seen (Some b) = Has ts b.0 × (weighed kind (view.price b.0) ≡ Some b.1) × All (NotAbove kind view b.1) seen
+  Among ts seen (Some b) = Contains ts b.0 × (weighed kind (view.price b.0) ≡ Some b.1) × All (NotAbove kind view b.1) seen
 
   pub record SoFar (ts : List Triangle) (i : ℕ) (b : Option (Triangle × W)) : Type 0 where
     pub best : Among ts (take i ts) b
-
-  pub begun : (ts : List Triangle) → SoFar ts 0 None
-  begun ts = record { best = tt }
 
   unpriced : (t : Triangle) (w : W) → view.price t ≡ None → NotAbove kind view w t
   unpriced t w e p f = nothing_is_some p (sym e ∙ f)
@@ -45,7 +42,7 @@ module _ {W : Type 0} {kind : Kind W} (lawful : Lawful kind) (view : View) where
   taken : (ts : List Triangle) (i : ℕ) (d : Triangle) (p : ℕ) → i < length ts → view.price (get_or ts i d) ≡ Some p → All (NotAbove kind view (kind.priced p)) (take i ts)
       → Among ts (take (i + 1) ts) (Some (get_or ts i d, kind.priced p))
   taken ts i d p l e h = (
-    has_get_or ts i d l,
+    Contains-get_or ts i d l,
     ap (weighed kind) e,
     All-more (NotAbove kind view (kind.priced p)) ts i d l h (at_price (get_or ts i d) p (kind.priced p) e (reflexive (kind.priced p))),
   )

@@ -37,9 +37,6 @@ module _ {W : Type 0} {kind : Kind W} (lawful : Lawful kind) where
     pub record SoFar (ts : List Triangle) (i : ℕ) (w : W) : Type 0 where
       pub whole : both kind (Some w) (joined kind view (drop i ts)) ≡ joined kind view ts
 
-    pub begun : (ts : List Triangle) (w : W) → w ≡ kind.nothing → SoFar ts 0 w
-    begun ts w e = record { whole = rw e (both_unit (joined kind view ts)) }
-
     left : (ts : List Triangle) (i : ℕ) (d : Triangle) (w : W) → i < length ts → SoFar ts i w
         → both kind (Some w) (both kind (weighed kind (view.price (get_or ts i d))) (joined kind view (drop (i + 1) ts))) ≡ joined kind view ts
     left ts i d w l h = ap (both kind (Some w)) (sym (at_drop_more (joined kind view) ts i d l)) ∙ h.whole

@@ -1,6 +1,5 @@
 -- What lists of triangles weigh, for a kind of weight and what a tariff answers.
-use Rattle.std.specs.Prelude.{◌≡◌, ℕ, true, cond, List, [], ◌∷◌, Some, None, Option}
-use Rattle.std.specs.List.{ContainsAt as Has, AllByRecursion as All}
+use Rattle.std.specs.Prelude.{◌≡◌, ℕ, true, cond, List, [], ◌∷◌, Some, None, Option, All, Contains}
 use Rattle.terms.specs.declared.triangles.Triangle.{Triangle}
 use Rattle.weights.specs.Kinds.{Kind}
 use Rattle.tariffs.specs.Views.{View}
@@ -29,7 +28,7 @@ module _ {W : Type 0} (kind : Kind W) where
   -- a listed triangle with its weight, and no listed one is above it; or none, where none of them has a price
   abbrev pub Dearest : View → List Triangle → Option (Triangle × W) → Type 0
   Dearest view ts None = All (λ t. view.price t ≡ None) ts
-  Dearest view ts (Some b) = Has ts b.0 × (weighed (view.price b.0) ≡ Some b.1) × All (NotAbove view b.1) ts
+  Dearest view ts (Some b) = Contains ts b.0 × (weighed (view.price b.0) ≡ Some b.1) × All (NotAbove view b.1) ts
 
   -- the one with the larger weight, the first where neither is larger
   abbrev pub larger : Option (Triangle × W) → Triangle × W → Triangle × W

@@ -1,7 +1,6 @@
 -- Two tariffs answer all lists of calls alike exactly where their meanings are equal.
-use Rattle.std.proofs.Common.{◌≡◌, ℕ, ◌+◌, ◌≤◌, Bool, true, ◌&&◌, List, [], ◌∷◌, length, drop, Ok, Err, Decides, sym, refl, ap, ◌∙◌, arith}
+use Rattle.std.proofs.Common.{◌≡◌, ℕ, ◌+◌, Bool, true, ◌&&◌, List, [], ◌∷◌, drop, Ok, Err, IsTrue, ◌↔◌, sym, refl, ◌∙◌}
 use mathlib.Core.Path.{fun_ext}
-use Rattle.std.proofs.lemmas.List.{drop_all}
 use Rattle.std.proofs.lemmas.Bool.{and_from, and_parts}
 use Rattle.terms.specs.declared.triangles.Triangle.{Triangle}
 use Rattle.terms.specs.declared.triangles.Fold.{Fold}
@@ -21,8 +20,8 @@ tails e = cc
 
 told_same : (a b : Answer) → told a ≡ told b → a ≡ b
 told_same (Ok a) (Ok b) e = refl
-told_same (Ok a) (Err f) e = let z : ◌≡◌ {A = ℕ} 0 1 = cc in absurd (omega arith)
-told_same (Err d) (Ok b) e = let z : ◌≡◌ {A = ℕ} 0 1 = cc in absurd (omega arith)
+told_same (Ok a) (Err f) e = absurd (cc)
+told_same (Err d) (Ok b) e = absurd (cc)
 told_same (Err d) (Err f) e = cc
 
 module _ (m n : Meaning) (alike : (calls : List Call) → replies m calls ≡ replies n calls) where
@@ -64,12 +63,9 @@ pub record Halfway (m n : Meaning) (calls : List Call) (i : ℕ) (m' n' : Meanin
   pub rest_decides : alike ≡ true → replies m' (drop i calls) ≡ replies n' (drop i calls) → replies m calls ≡ replies n calls
   pub so_far : replies m calls ≡ replies n calls → (alike ≡ true) × (replies m' (drop i calls) ≡ replies n' (drop i calls))
 
-pub begun : (m n : Meaning) (calls : List Call) → Halfway m n calls 0 m n true
-begun m n calls = record { one = refl; other = refl; rest_decides = λ _ e. e; so_far = λ e. (refl, e) }
-
 -- one call more, with the reply of each
 pub more : (m n : Meaning) (calls : List Call) (i : ℕ) (c : Call) (m' n' m'' n'' : Meaning) (alike same : Bool) (r s : Reply)
-    → drop i calls ≡ c ∷ drop (i + 1) calls → m'' ≡ leaves m' c → n'' ≡ leaves n' c → r ≡ reply m' c → s ≡ reply n' c → Decides same (r ≡ s)
+    → drop i calls ≡ c ∷ drop (i + 1) calls → m'' ≡ leaves m' c → n'' ≡ leaves n' c → r ≡ reply m' c → s ≡ reply n' c → (IsTrue same ↔ (r ≡ s))
     → Halfway m n calls i m' n' alike → Halfway m n calls (i + 1) m'' n'' (alike && same)
 more m n calls i c m' n' m'' n'' alike same r s d p q e f t h =
     record {
@@ -84,13 +80,3 @@ more m n calls i c m' n' m'' n'' alike same r s d p q e f t h =
           let l : reply m' c ∷ replies (leaves m' c) (drop (i + 1) calls) ≡ reply n' c ∷ replies (leaves n' c) (drop (i + 1) calls) = rw d at a.1 in
           (and_from alike same a.0 (t.1 (e ∙ heads l ∙ sym f)), rw (p, q) (tails l)));
     }
-
--- all calls made
-pub done : (m n : Meaning) (calls : List Call) (i : ℕ) (m' n' : Meaning) (alike : Bool) → length calls ≤ i → Halfway m n calls i m' n' alike
-    → (m' ≡ leaves_all m calls) × (n' ≡ leaves_all n calls) × Decides alike (replies m calls ≡ replies n calls)
-done m n calls i m' n' alike l h =
-    let d : drop i calls ≡ [] = drop_all i calls l in (
-      ap (leaves_all m') (sym d) ∙ h.one,
-      ap (leaves_all n') (sym d) ∙ h.other,
-      (λ a. h.rest_decides a (ap (replies m') d ∙ ap (replies n') (sym d)), λ e. (h.so_far e).0),
-    )

@@ -1,5 +1,5 @@
 // Makes calls of tariffs, and compares what two tariffs answer.
-ghost use Rattle.std.specs.Prelude.{◌≡◌, true, Decides, ◌≢◌};
+ghost use Rattle.std.specs.Prelude.{◌≡◌, true, ◌↔◌, IsTrue, ◌≢◌};
 ghost use Rattle.tariffs.specs.declared.calls.Reply.TheVariants.{Accepted};
 ghost use Rattle.tariffs.specs.Replies.{AnswerAlike, EqualIfAlike, leaves, leaves_all, reply, told};
 
@@ -16,7 +16,7 @@ fn reply_to(answer: Result<(), Refusal>) -> Reply
 }
 
 fn is_same(one: Reply, other: Reply) -> bool
-    ensures { Decides result (one ≡ other) }
+    ensures { IsTrue result ↔ (one ≡ other) }
 {
     one == other
 }
@@ -26,7 +26,7 @@ pub fn make_call<T: Amendable>(tariff: &mut T, call: Call) -> Reply
     ensures answer { result ≡ reply (T.Amendable.meaning tariff.old) call }
     ensures left { T.Amendable.meaning tariff.new ≡ leaves (T.Amendable.meaning tariff.old) call }
     ensures beyond { T.Amendable.keeps tariff.old tariff.new }
-    ensures unaltered { (result ≢ Accepted) → T.Amendable.unaltered tariff.old tariff.new }
+    ensures unaltered { result ≢ Accepted → T.Amendable.unaltered tariff.old tariff.new }
 {
     tariff.present();
     match call {
@@ -51,7 +51,7 @@ pub fn answer_alike<S: Amendable, T: Amendable>(
     second: &mut T,
     calls: &[Call],
 ) -> bool
-    ensures answer { Decides result (AnswerAlike (S.Amendable.meaning first.old) (T.Amendable.meaning second.old) calls.now) }
+    ensures answer { IsTrue result ↔ (AnswerAlike (S.Amendable.meaning first.old) (T.Amendable.meaning second.old) calls.now) }
     ensures same { S.Amendable.meaning first.old ≡ T.Amendable.meaning second.old → result ≡ true }
     ensures observable { EqualIfAlike (S.Amendable.meaning first.old) (T.Amendable.meaning second.old) }
     ensures first_left { S.Amendable.meaning first.new ≡ leaves_all (S.Amendable.meaning first.old) calls.now }

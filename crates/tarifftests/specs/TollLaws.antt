@@ -1,5 +1,5 @@
 -- The tiny tariff keeps the laws.
-use Rattle.std.specs.Prelude.{◌≡◌, ℕ, ◌+◌, ◌*◌, ◌≤◌, min, Bool, true, false, cond, List, ℤ, is_some, Some, None, Ok, Err, Option, ◌==◌, ◌≢◌, slice_set, unsigned_abs, refl}
+use Rattle.std.specs.Prelude.{◌≡◌, ℕ, ◌+◌, ◌*◌, ◌≤◌, min, Bool, true, false, cond, List, is_some, Some, None, Ok, Err, ◌==◌, ◌≢◌, slice_set, unsigned_abs, refl}
 use Rattle.std.proofs.Common.{ap, inl, inr, arith, get_or-set_other}
 use Rattle.std.proofs.lemmas.Nat.{mul-le}
 use Rattle.std.proofs.lemmas.Bool.{eqb-true, or_cases}
@@ -9,15 +9,15 @@ use Rattle.terms.specs.declared.Refusal.{Refusal}
 use Rattle.terms.specs.declared.Refusal.TheVariants.{OutOfRange, BadCorner}
 use Rattle.terms.specs.Triangles.{is_fold_of, is_triangle_of}
 use Rattle.terms.specs.TriangleTests.{fold_of, triangle_of}
-use Rattle.tariffs.specs.declared.calls.Change.TheVariants.{Amend}
 use Rattle.tariffs.specs.Views.{AmendRefusal, Answer, OnlyAt, Proper}
 use Rattle.tariffs.specs.Meanings.{Obeys}
-use Rattle.tariffs.specs.States.{Sound, meant, obeys}
-use Rattle.tarifftests.specs.Tolls.{State, accepted, amendable, head_of, known, outlook, toll, toll_of, view_of}
+use Rattle.tariffs.specs.States.{meant}
+use Rattle.tariffs.proofs.StateLaws.{obeys}
+use Rattle.tarifftests.specs.Tolls.{State, accepted, amendable, head_of, known, outlook, state, toll, toll_of, view_of}
 
 pub cond_some : (b : Bool) (x p : ℕ) → cond b (Some x) None ≡ Some p → (b ≡ true) × (x ≡ p)
 cond_some true x p e = (refl, (let k : x ≡ p = cc in k))
-cond_some false x p e = let z : ◌≡◌ {A = ℕ} 0 1 = cc in absurd (omega arith)
+cond_some false x p e = absurd (cc)
 
 head_at_most : (s : State) → head_of s ≤ 2
 head_at_most s = elim s.doubled as (λ b. cond b 2 1 ≤ 2) [ true ↦ omega arith | false ↦ omega arith ]
@@ -52,19 +52,20 @@ same_price a b t d l m h = rw (d, l, m, h) refl
 same_fold_price : (a b : State) (f : Fold) → a.doubled ≡ b.doubled → toll a.tolls f.outer ≡ toll b.tolls f.outer → (view_of a).fold_price f ≡ (view_of b).fold_price f
 same_fold_price a b f d o = rw (d, o) refl
 
-pub only_at : (s : State) (c : ℕ) (x y z : ℤ) → OnlyAt c (view_of s) (view_of (accepted s (Amend c x y z)))
-only_at s c x y z =
-    let others : (k : ℕ) → (k ≢ c) → toll (accepted s (Amend c x y z)).tolls k ≡ toll s.tolls k = λ k h. same_toll s.tolls c (unsigned_abs x) k h in
+pub only_at : (s : State) (c n : ℕ) → OnlyAt c (view_of s) (view_of (state (slice_set s.tolls c n) s.doubled))
+only_at s c n =
+    let new : State = state (slice_set s.tolls c n) s.doubled in
+    let others : (k : ℕ) → (k ≢ c) → toll new.tolls k ≡ toll s.tolls k = λ k h. same_toll s.tolls c n k h in
     record {
       corners = refl;
       knows = refl;
       in_use = refl;
-      prices = λ t h. same_price (accepted s (Amend c x y z)) s t refl (others t.low (λ e. h (inl e))) (others t.mid (λ e. h (inr (inl e)))) (others t.high (λ e. h (inr (inr e))));
-      fold_prices = λ f h. same_fold_price (accepted s (Amend c x y z)) s f refl (others f.outer (λ e. h (inr e)));
+      prices = λ t h. same_price new s t refl (others t.low (λ e. h (inl e))) (others t.mid (λ e. h (inr (inl e)))) (others t.high (λ e. h (inr (inr e))));
+      fold_prices = λ f h. same_fold_price new s f refl (others f.outer (λ e. h (inr e)));
     }
 
 refusal : (a b : Bool) (e : Refusal) → ◌≡◌ {A = Answer} (cond a (cond b (Ok tt) (Err BadCorner)) (Err OutOfRange)) (Err e) → AmendRefusal e
-refusal true true e p = let z : ◌≡◌ {A = ℕ} 0 1 = cc in absurd (omega arith)
+refusal true true e p = absurd (cc)
 refusal true false e p = inr (inl (let g : e ≡ BadCorner = cc in g))
 refusal false b e p = inl (let g : e ≡ OutOfRange = cc in g)
 
@@ -75,15 +76,13 @@ exchanged_head n e =
       | inr p ↦ (let k : n ≡ 2 = eqb-true n 2 p in rw k refl)
     ]
 
-sound : (s : State) → Sound outlook accepted s
-sound s =
+pub obeys_all : (s : State) → Obeys (meant outlook accepted s)
+obeys_all s =
+    obeys outlook accepted s
     record {
       proper = proper_view s;
-      amended = λ c x y z e. only_at s c x y z;
+      amended = λ c x y z e. only_at s c (unsigned_abs x);
       refusals = λ c x y z e f. refusal (is_some (toll_of x)) (amendable s c) e f;
       exchange = λ n. refl;
       exchanged = λ n k. record { known = k; corners = refl; knows = refl; in_use = exchanged_head n k };
     }
-
-pub obeys_all : (s : State) → Obeys (meant outlook accepted s)
-obeys_all s = obeys outlook accepted s (sound s)

@@ -12,7 +12,7 @@ use tariffs::{Call, Reply, make_call};
 pub fn call_over(memory: &mut [u16], call: Call) -> Reply
     ensures answer { result ≡ reply (meant outlook accepted (state memory.old false)) call }
     ensures beyond { drop 4 memory.new ≡ drop 4 memory.old }
-    ensures refused { (result ≢ Accepted) → memory.new ≡ memory.old }
+    ensures refused { result ≢ Accepted → memory.new ≡ memory.old }
 {
     let mut tolls = Tolls {
         tolls: memory,

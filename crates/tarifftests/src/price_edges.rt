@@ -1,7 +1,6 @@
 // Lists of triangles under the tiny tariff, in each kind of weight.
 use crate::tolls::Tolls;
 use pricing::{dearest, weight_of};
-use std::test::Fail;
 use terms::Triangle;
 use weights::{Sum, SumWorst, Worst};
 
@@ -44,7 +43,7 @@ fn a_list_in_three_kinds(rt: HostRuntime) {
 }
 
 #[test]
-fn the_dearest_of_a_list(rt: HostRuntime) -> Result<(), Fail> {
+fn the_dearest_of_a_list(rt: HostRuntime) {
     let mut memory = [1, 20, 300, 400];
     let tolls = Tolls {
         tolls: &mut memory,
@@ -54,11 +53,7 @@ fn the_dearest_of_a_list(rt: HostRuntime) -> Result<(), Fail> {
     match dearest::<Worst, _>(&tolls, &[NONE, HIGH, LOW]) {
         Some((triangle, weight)) => {
             assert!(rt; triangle == HIGH && weight == Worst { price: 720 });
-            Ok(())
         },
-        None => {
-            assert!(rt; false);
-            Ok(())
-        },
+        None => assert!(rt; false),
     }
 }

@@ -59,9 +59,11 @@ fn pairs_join_to_pairs_or_top(rt: HostRuntime) {
 #[test]
 fn weights_are_written_for_people(rt: HostRuntime) -> Result<(), Fail> {
     let heap: Global = rt.alloc();
-    assert!(rt; format!(in heap; "{}", Worst::priced(141))? == "weight 141");
-    assert!(rt; format!(in heap; "{}", Sum { total: TOP })? == "weight 18446744073709551615");
-    assert!(rt; format!(in heap; "{}", pair(273, 173))? == "weight 273 173");
-    assert!(rt; format!(in heap; "{}", SumWorst::Top)? == "weight top");
+    assert!(rt; format!(in heap; "{}", Worst::priced(141))?.as_str() == "weight 141");
+    assert!(rt;
+        format!(in heap; "{}", Sum { total: TOP })?.as_str() == "weight 18446744073709551615"
+    );
+    assert!(rt; format!(in heap; "{}", pair(273, 173))?.as_str() == "weight 273 173");
+    assert!(rt; format!(in heap; "{}", SumWorst::Top)?.as_str() == "weight top");
     Ok(())
 }

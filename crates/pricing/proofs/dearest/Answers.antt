@@ -1,10 +1,7 @@
 use Rattle.std.proofs.Common.{sym, ◌∙◌}
-use Rattle.pricing.proofs.Choosing.{begun, compared, done, passed}
-use Rattle.pricing.proofs.dearest.Goals.{in-Some, in-default}
+use Rattle.pricing.proofs.Choosing.{compared, done, passed}
+use Rattle.pricing.proofs.dearest.Goals.{in-Some, in_default}
 use Rattle.pricing.proofs.dearest.Goals as goal
-
-pub loop-triangle-init : goal.loop-triangle-init
-loop-triangle-init g c = begun g.W.Weight.lawful _ _
 
 pub loop-triangle-preserved : goal.loop-triangle-preserved
 loop-triangle-preserved g c =
@@ -12,7 +9,7 @@ loop-triangle-preserved g c =
     let in_List = c.loop-triangle-test.true in
     elim c.match-price.branch [
       | in-Some w ↦ rw w.best-is (compared lawful _ _ _ _ _ _ _ _ in_List (sym c.price.ensures ∙ w.in-Some.is) w.priced.ensures w.dearer.ensures c.loop-triangle.invariant)
-      | in-default w ↦ rw w.best-is (passed lawful _ _ _ _ _ in_List (sym c.price.ensures ∙ w.in-default.is) c.loop-triangle.invariant)
+      | in_default w ↦ rw w.best-is (passed lawful _ _ _ _ _ in_List (sym c.price.ensures ∙ w.in_default.is) c.loop-triangle.invariant)
     ]
 
 pub returns : goal.returns

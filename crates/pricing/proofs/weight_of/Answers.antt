@@ -1,20 +1,17 @@
 use Rattle.std.proofs.Common.{sym, ap, ◌∙◌}
-use Rattle.pricing.proofs.Joins.{any_order, begun, done, more, unpriced}
+use Rattle.pricing.proofs.Joins.{any_order, done, more, unpriced}
 use Rattle.pricing.proofs.weight_of.Goals as goal
-
-pub loop-triangle-init : goal.loop-triangle-init
-loop-triangle-init g c = begun g.W.Weight.lawful _ _ _ c.nothing-weight.ensures
 
 pub loop-triangle-preserved : goal.loop-triangle-preserved
 loop-triangle-preserved g c =
-    let price = sym c.price.ensures ∙ c.in-ok-price.was in
+    let price = sym c.price.ensures ∙ c.in_ok-price.was in
     let weight = c.join-weight.ensures ∙ ap (g.W.Weight.kind.join c.loop-triangle.weight) c.priced.ensures in
     more g.W.Weight.lawful _ _ _ _ _ _ _ c.loop-triangle-test.true price weight c.loop-triangle.invariant
 
-pub returns-in-err-price : goal.returns-in-err-price
-returns-in-err-price g c =
-    let price = sym c.price.ensures ∙ c.in-err-price.was in
-    let value = c.from-residual.ensures ∙ sym (unpriced g.W.Weight.lawful _ _ _ _ _ c.loop-triangle-test.true price c.loop-triangle.invariant) in
+pub returns-in_err-price : goal.returns-in_err-price
+returns-in_err-price g c =
+    let price = sym c.price.ensures ∙ c.in_err-price.was in
+    let value = c.from_residual.ensures ∙ sym (unpriced g.W.Weight.lawful _ _ _ _ _ c.loop-triangle-test.true price c.loop-triangle.invariant) in
     record { value = value; any_order = λ others s. value ∙ sym (any_order g.W.Weight.lawful (g.T.Tariff.view c.args.tariff.now) _ others s) }
 
 pub returns : goal.returns
