@@ -32,7 +32,7 @@ pub fn input(rt: &HostRuntime, help: &str) -> anyhow::Result<Option<Vec<u8>>> {
 }
 
 fn unreadable(name: &str, e: io::Error) -> anyhow::Error {
-    anyhow!("{name}: {e}")
+    anyhow::Error::from(e).context(name)
 }
 
 fn standard_input(rt: &HostRuntime) -> anyhow::Result<Vec<u8>> {
@@ -50,7 +50,7 @@ pub fn explained<T>(
     ensures { result ≡ outcome }
 {
     if let Err(e) = &outcome {
-        let _ = eprintln!(rt; "{program}: {e}");
+        let _ = eprintln!(rt; "{program}: {e:#}");
     }
     outcome
 }
