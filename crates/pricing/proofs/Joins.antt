@@ -9,6 +9,10 @@ use Rattle.weights.specs.Kinds.{Kind, Lawful}
 use Rattle.tariffs.specs.Views.{View}
 use Rattle.pricing.specs.Prices.{both, joined, weighed}
 
+-- w is joined from the first i triangles: with what is left it makes the whole
+pub record SoFar {W : Type 0} (kind : Kind W) (view : View) (ts : List Triangle) (i : ℕ) (w : W) : Type 0 where
+  pub whole : both kind (Some w) (joined kind view (drop i ts)) ≡ joined kind view ts
+
 module _ {W : Type 0} {kind : Kind W} (lawful : Lawful kind) where
   pub both_comm : (a b : Option W) → both kind a b ≡ both kind b a
   both_comm None None = refl
@@ -33,16 +37,12 @@ module _ {W : Type 0} {kind : Kind W} (lawful : Lawful kind) where
   both_swap a b c = sym (both_assoc a b c) ∙ ap (λ (x : Option W). both kind x c) (both_comm a b) ∙ both_assoc b a c
 
   module _ (view : View) where
-    -- w is joined from the first i triangles: with what is left it makes the whole
-    pub record SoFar (ts : List Triangle) (i : ℕ) (w : W) : Type 0 where
-      pub whole : both kind (Some w) (joined kind view (drop i ts)) ≡ joined kind view ts
-
-    left : (ts : List Triangle) (i : ℕ) (d : Triangle) (w : W) → i < length ts → SoFar ts i w
+    left : (ts : List Triangle) (i : ℕ) (d : Triangle) (w : W) → i < length ts → SoFar kind view ts i w
         → both kind (Some w) (both kind (weighed kind (view.price (get_or ts i d))) (joined kind view (drop (i + 1) ts))) ≡ joined kind view ts
     left ts i d w l h = ap (both kind (Some w)) (sym (at_drop_more (joined kind view) ts i d l)) ∙ h.whole
 
     pub more : (ts : List Triangle) (i : ℕ) (d : Triangle) (w w' : W) (p : ℕ) → i < length ts → view.price (get_or ts i d) ≡ Some p
-        → w' ≡ kind.join w (kind.priced p) → SoFar ts i w → SoFar ts (i + 1) w'
+        → w' ≡ kind.join w (kind.priced p) → SoFar kind view ts i w → SoFar kind view ts (i + 1) w'
     more ts i d w w' p l e f h =
         record {
           whole =
@@ -52,11 +52,11 @@ module _ {W : Type 0} {kind : Kind W} (lawful : Lawful kind) where
               ∙ left ts i d w l h;
         }
 
-    pub unpriced : (ts : List Triangle) (i : ℕ) (d : Triangle) (w : W) → i < length ts → view.price (get_or ts i d) ≡ None → SoFar ts i w → joined kind view ts ≡ None
+    pub unpriced : (ts : List Triangle) (i : ℕ) (d : Triangle) (w : W) → i < length ts → view.price (get_or ts i d) ≡ None → SoFar kind view ts i w → joined kind view ts ≡ None
     unpriced ts i d w l e h =
         sym (left ts i d w l h) ∙ ap (λ (o : Option ℕ). both kind (Some w) (both kind (weighed kind o) (joined kind view (drop (i + 1) ts)))) e
 
-    pub done : (ts : List Triangle) (i : ℕ) (w : W) → length ts ≤ i → SoFar ts i w → Some w ≡ joined kind view ts
+    pub done : (ts : List Triangle) (i : ℕ) (w : W) → length ts ≤ i → SoFar kind view ts i w → Some w ≡ joined kind view ts
     done ts i w l h = sym (both_unit_right (Some w)) ∙ ap (both kind (Some w)) (sym (at_drop_all (joined kind view) ts i l)) ∙ h.whole
 
     -- all but the i-th joined
@@ -91,5 +91,9 @@ module _ {W : Type 0} {kind : Kind W} (lawful : Lawful kind) where
     exchange ts [] i j l k e = e
     exchange ts (u ∷ us) i j l k e = swapped (u ∷ us) i j u l k ∙ e
 
-    pub any_order : (ts us : List Triangle) → IsPermutation ts us → joined kind view us ≡ joined kind view ts
+    any_order : (ts us : List Triangle) → IsPermutation ts us → joined kind view us ≡ joined kind view ts
     any_order ts us h = IsPermutation-keeps ts (λ (l : List Triangle). joined kind view l ≡ joined kind view ts) refl (exchange ts) us h
+
+    -- what is joined from a list is joined from it in any order
+    pub in_any_order : (ts : List Triangle) (r : Option W) → r ≡ joined kind view ts → (us : List Triangle) → IsPermutation ts us → r ≡ joined kind view us
+    in_any_order ts r e us h = e ∙ sym (any_order ts us h)

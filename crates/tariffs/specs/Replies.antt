@@ -1,25 +1,19 @@
 -- What a list of calls is answered, and what it leaves, by the tariff's meaning alone.
-use Rattle.std.specs.Prelude.{◌≡◌, List, [], ◌∷◌, Ok, Err}
+use Rattle.std.specs.Prelude.{◌≡◌, List, [], ◌∷◌}
 use Rattle.tariffs.specs.declared.calls.Call.{Call}
 use Rattle.tariffs.specs.declared.calls.Call.TheVariants.{Corners, Knows, InUse, Price, FoldPrice, Alter}
 use Rattle.tariffs.specs.declared.calls.Reply.{Reply}
-use Rattle.tariffs.specs.declared.calls.Reply.TheVariants.{Number, Known, Serial, Priced, Accepted, Refused}
-use Rattle.tariffs.specs.Views.{Answer}
+use Rattle.tariffs.specs.declared.calls.Reply.TheVariants.{Number, Known, Serial, Priced, Answered}
 use Rattle.tariffs.specs.Meanings.{Meaning, after}
 
--- the reply to a change
-abbrev pub told : Answer → Reply
-told (Ok _) = Accepted
-told (Err e) = Refused e
-
--- the reply to any call
+-- the reply to a call
 abbrev pub reply : Meaning → Call → Reply
 reply m Corners = Number (m []).view.corners
 reply m (Knows s) = Known ((m []).view.knows s)
 reply m InUse = Serial (m []).view.in_use
 reply m (Price t) = Priced ((m []).view.price t)
 reply m (FoldPrice f) = Priced ((m []).view.fold_price f)
-reply m (Alter c) = told ((m []).answer c)
+reply m (Alter c) = Answered ((m []).answer c)
 
 -- only a change alters the meaning
 abbrev pub leaves : Meaning → Call → Meaning

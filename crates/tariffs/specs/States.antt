@@ -1,5 +1,5 @@
 -- A meaning given by states: what is answered in each, and the state that an accepted change leaves.
-use Rattle.std.specs.Prelude.{◌≡◌, ℕ, true, cond, [], ◌∷◌, ℤ, Ok, Err}
+use Rattle.std.specs.Prelude.{◌≡◌, ℕ, true, if◌then◌else◌, [], ◌∷◌, ℤ, Ok, Err}
 use Rattle.terms.specs.declared.Refusal.{Refusal}
 use Rattle.terms.specs.declared.Refusal.TheVariants.{SerialUnknown}
 use Rattle.tariffs.specs.declared.calls.Change.{Change}
@@ -25,5 +25,5 @@ module _ {S : Type 0} (outlook : S → Outlook) (accepted : S → Change → S) 
     pub proper : Proper (outlook s).view
     pub amended : (c : ℕ) (x y z : ℤ) → (outlook s).answer (Amend c x y z) ≡ Ok tt → OnlyAt c (outlook s).view (outlook (accepted s (Amend c x y z))).view
     pub refusals : (c : ℕ) (x y z : ℤ) (e : Refusal) → (outlook s).answer (Amend c x y z) ≡ Err e → AmendRefusal e
-    pub exchange : (n : ℕ) → (outlook s).answer (Exchange n) ≡ cond ((outlook s).view.knows n) (Ok tt) (Err SerialUnknown)
+    pub exchange : (n : ℕ) → (outlook s).answer (Exchange n) ≡ (if (outlook s).view.knows n then Ok tt else Err SerialUnknown)
     pub exchanged : (n : ℕ) → (outlook s).view.knows n ≡ true → PutInUse n (outlook s).view (outlook (accepted s (Exchange n))).view

@@ -1,7 +1,8 @@
 // The calls of a tariff as values, so that there are lists of them.
 use terms::{Fold, Refusal, Triangle};
 
-// A call that may alter an amendable tariff.
+// A call that may alter an amendable tariff, with its arguments as the call takes them: a struct of the three numbers would
+// be taken apart at once.
 #[derive(Clone, Copy, Debug)]
 pub enum Change {
     Amend { corner: u16, x: i32, y: i32, z: i32 },
@@ -12,11 +13,11 @@ pub enum Change {
 #[derive(Clone, Copy, Debug)]
 pub enum Call {
     Corners,
-    Knows { serial: u32 },
+    Knows(u32),
     InUse,
-    Price { triangle: Triangle },
-    FoldPrice { fold: Fold },
-    Alter { change: Change },
+    Price(Triangle),
+    FoldPrice(Fold),
+    Alter(Change),
 }
 
 // What a call answers.
@@ -26,6 +27,5 @@ pub enum Reply {
     Known(bool),
     Serial(u32),
     Priced(Option<u32>),
-    Accepted,
-    Refused(Refusal),
+    Answered(Result<(), Refusal>),
 }

@@ -1,46 +1,27 @@
 // Makes calls of tariffs, and compares what two tariffs answer.
-ghost use Rattle.std.specs.Prelude.{◌≡◌, true, ◌↔◌, IsTrue, ◌≢◌};
-ghost use Rattle.tariffs.specs.declared.calls.Reply.TheVariants.{Accepted};
-ghost use Rattle.tariffs.specs.Replies.{AnswerAlike, EqualIfAlike, leaves, leaves_all, reply, told};
+ghost use Rattle.std.specs.Prelude.{◌≡◌, ◌↔◌, ◌≢◌, IsTrue};
+ghost use Rattle.tariffs.specs.Replies.{AnswerAlike, EqualIfAlike, leaves, leaves_all, reply};
 
 use crate::{Amendable, Call, Change, Reply};
-use terms::Refusal;
 
-fn reply_to(answer: Result<(), Refusal>) -> Reply
-    ensures { result ≡ told answer }
-{
-    match answer {
-        Ok(()) => Reply::Accepted,
-        Err(refusal) => Reply::Refused(refusal),
-    }
-}
-
-fn is_same(one: Reply, other: Reply) -> bool
-    ensures { IsTrue result ↔ (one ≡ other) }
-{
-    one == other
-}
-
-// Makes one call.
+// Makes one call. Calls are values and no closures, so that definitions speak of lists of them. The clauses are those of
+// the changes, for any call: one definition for all of them would be longer than the clause that is cited.
 pub fn make_call<T: Amendable>(tariff: &mut T, call: Call) -> Reply
-    ensures answer { result ≡ reply (T.Amendable.meaning tariff.old) call }
-    ensures left { T.Amendable.meaning tariff.new ≡ leaves (T.Amendable.meaning tariff.old) call }
-    ensures beyond { T.Amendable.keeps tariff.old tariff.new }
-    ensures unaltered { result ≢ Accepted → T.Amendable.unaltered tariff.old tariff.new }
+    ensures answer { result ≡ reply (T.meaning tariff.old) call }
+    ensures left { T.meaning tariff.new ≡ leaves (T.meaning tariff.old) call }
+    ensures beyond { T.keeps tariff.old tariff.new }
+    ensures unaltered { result ≢ Reply.Answered (Ok tt) → T.unaltered tariff.old tariff.new }
 {
-    tariff.present();
     match call {
         Call::Corners => Reply::Number(tariff.corners()),
-        Call::Knows { serial } => Reply::Known(tariff.knows(serial)),
+        Call::Knows(serial) => Reply::Known(tariff.knows(serial)),
         Call::InUse => Reply::Serial(tariff.in_use()),
-        Call::Price { triangle } => Reply::Priced(tariff.price(triangle)),
-        Call::FoldPrice { fold } => Reply::Priced(tariff.fold_price(fold)),
-        Call::Alter {
-            change: Change::Amend { corner, x, y, z },
-        } => reply_to(tariff.amend(corner, x, y, z)),
-        Call::Alter {
-            change: Change::Exchange { serial },
-        } => reply_to(tariff.exchange(serial)),
+        Call::Price(triangle) => Reply::Priced(tariff.price(triangle)),
+        Call::FoldPrice(fold) => Reply::Priced(tariff.fold_price(fold)),
+        Call::Alter(Change::Amend { corner, x, y, z }) => Reply::Answered(tariff.amend(
+            corner, x, y, z,
+        )),
+        Call::Alter(Change::Exchange { serial }) => Reply::Answered(tariff.exchange(serial)),
     }
 }
 
@@ -51,18 +32,18 @@ pub fn answer_alike<S: Amendable, T: Amendable>(
     second: &mut T,
     calls: &[Call],
 ) -> bool
-    ensures answer { IsTrue result ↔ (AnswerAlike (S.Amendable.meaning first.old) (T.Amendable.meaning second.old) calls.now) }
-    ensures same { S.Amendable.meaning first.old ≡ T.Amendable.meaning second.old → result ≡ true }
-    ensures observable { EqualIfAlike (S.Amendable.meaning first.old) (T.Amendable.meaning second.old) }
-    ensures first_left { S.Amendable.meaning first.new ≡ leaves_all (S.Amendable.meaning first.old) calls.now }
-    ensures second_left { T.Amendable.meaning second.new ≡ leaves_all (T.Amendable.meaning second.old) calls.now }
-    ensures beyond { (S.Amendable.keeps first.old first.new) × (T.Amendable.keeps second.old second.new) }
+    ensures answer { IsTrue result ↔ (AnswerAlike (S.meaning first.old) (T.meaning second.old) calls.now) }
+    ensures same { S.meaning first.old ≡ T.meaning second.old → IsTrue result }
+    ensures observable { EqualIfAlike (S.meaning first.old) (T.meaning second.old) }
+    ensures first_left { S.meaning first.new ≡ leaves_all (S.meaning first.old) calls.now }
+    ensures second_left { T.meaning second.new ≡ leaves_all (T.meaning second.old) calls.now }
+    ensures beyond { (S.keeps first.old first.new) × (T.keeps second.old second.new) }
 {
     let mut alike = true;
     for call in calls {
         let one = make_call(first, *call);
         let other = make_call(second, *call);
-        alike &= is_same(one, other);
+        alike &= one == other;
     }
     alike
 }

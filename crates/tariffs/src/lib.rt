@@ -1,7 +1,7 @@
 // Tariffs: what gives the triangles and folds of a loop their prices, and how it may change.
 #![tactic(auto)]
 
-ghost use Rattle.std.specs.Prelude.{◌≡◌, false, [], is_ok};
+ghost use Rattle.std.specs.Prelude.{◌≡◌, [], OnErr};
 ghost use Rattle.tariffs.specs.declared.calls.Change.TheVariants.{Amend, Exchange};
 ghost use Rattle.tariffs.specs.Views.{Amended, Exchanged, Proper, View};
 ghost use Rattle.tariffs.specs.Meanings.{Chains, Meaning, Obeys, after};
@@ -18,10 +18,6 @@ pub use comparison::{answer_alike, make_call};
 pub trait Tariff {
     // Everything that it answers.
     ghost view: { Self → View };
-
-    // Its loop has 3 to 64 corners, the head in use is known, and only triangles and folds of the loop have prices,
-    // none above the limit.
-    ghost proper: { (t : Self) → Proper (view t) };
 
     // How many corners the loop has.
     fn corners(&self) -> u16
@@ -42,45 +38,50 @@ pub trait Tariff {
     // The price of a fold, if it has one.
     fn fold_price(&self, fold: Fold) -> Option<u32>
         ensures { result ≡ (view self.now).fold_price fold };
+
+    // Its loop has 3 to 64 corners, the head in use is known, and only triangles and folds of the loop have prices,
+    // none above the limit.
+    ghost proper: { (t : Self) → Proper (view t) };
 }
 
-// A tariff that takes changes.
+// A tariff that takes two changes, amend and exchange, which promise alike, clause by clause: one definition for the four
+// clauses would be longer at each use than the clause that is cited.
 pub trait Amendable: Tariff {
     // What it answers now and after any list of changes.
     ghost meaning: { Self → Meaning };
 
-    // The laws of amend and exchange.
-    ghost obeys: { (t : Self) → Obeys (meaning t) };
-
     // Holds of the tariff before and after a call: memory that it was lent, beyond what its meaning reads, is as it was.
     ghost keeps: { Self → Self → Type 0 };
-
-    // It holds of several calls in a row where it holds of each.
-    ghost chains: { Chains keeps };
 
     // Holds of the tariff before and after a call: nothing of it was altered, nor of any memory that it was lent.
     ghost unaltered: { Self → Self → Type 0 };
 
-    // The same for several calls in a row.
-    ghost steady: { Chains unaltered };
-
-    // Its meaning begins with what it answers now. The call does nothing: its contract hands this fact to the caller.
-    fn present(&self)
-        ensures { (meaning self.now []).view ≡ Self.Tariff.view self.now };
-
-    // Changes what concerns one corner, by three numbers whose meaning is the tariff's own.
+    // Changes what concerns one corner, by three numbers whose meaning is the tariff's own; a struct of them would be taken
+    // apart at once.
     fn amend(&mut self, corner: u16, x: i32, y: i32, z: i32) -> Result<(), Refusal>
         ensures answer { result ≡ (meaning self.old []).answer (Amend corner x y z) }
         ensures left { meaning self.new ≡ after (Amend corner x y z) (meaning self.old) }
-        ensures prices { Amended result corner (Self.Tariff.view self.old) (Self.Tariff.view self.new) }
+        ensures prices { Amended result corner (Self.view self.old) (Self.view self.new) }
         ensures beyond { keeps self.old self.new }
-        ensures refused { is_ok result ≡ false → unaltered self.old self.new };
+        ensures refused { OnErr result (unaltered self.old self.new) };
 
     // Puts another head in use.
     fn exchange(&mut self, serial: u32) -> Result<(), Refusal>
         ensures answer { result ≡ (meaning self.old []).answer (Exchange serial) }
         ensures left { meaning self.new ≡ after (Exchange serial) (meaning self.old) }
-        ensures prices { Exchanged result serial (Self.Tariff.view self.old) (Self.Tariff.view self.new) }
+        ensures prices { Exchanged result serial (Self.view self.old) (Self.view self.new) }
         ensures beyond { keeps self.old self.new }
-        ensures refused { is_ok result ≡ false → unaltered self.old self.new };
+        ensures refused { OnErr result (unaltered self.old self.new) };
+
+    // Its meaning begins with what it answers now.
+    ghost begins: { (t : Self) → (meaning t []).view ≡ Self.view t };
+
+    // The laws of amend and exchange.
+    ghost obeys: { (t : Self) → Obeys (meaning t) };
+
+    // What is kept by each of several calls in a row is kept by all of them.
+    ghost chains: { Chains keeps };
+
+    // And so what none of them altered.
+    ghost steady: { Chains unaltered };
 }

@@ -25,10 +25,7 @@ const NONE: Triangle = Triangle {
 #[test]
 fn a_list_in_three_kinds(rt: HostRuntime) {
     let mut memory = [1, 20, 300, 400];
-    let tolls = Tolls {
-        tolls: &mut memory,
-        doubled: false,
-    };
+    let tolls = Tolls::new(&mut memory);
     assert!(rt; weight_of(&tolls, &[LOW, HIGH]) == Some(Sum { total: 1041 }));
     assert!(rt; weight_of(&tolls, &[HIGH, LOW]) == Some(Worst { price: 720 }));
     assert!(rt;
@@ -45,15 +42,10 @@ fn a_list_in_three_kinds(rt: HostRuntime) {
 #[test]
 fn the_dearest_of_a_list(rt: HostRuntime) {
     let mut memory = [1, 20, 300, 400];
-    let tolls = Tolls {
-        tolls: &mut memory,
-        doubled: false,
-    };
-    assert!(rt; dearest::<Worst, _>(&tolls, &[NONE]).is_none());
-    match dearest::<Worst, _>(&tolls, &[NONE, HIGH, LOW]) {
-        Some((triangle, weight)) => {
-            assert!(rt; triangle == HIGH && weight == Worst { price: 720 });
-        },
-        None => assert!(rt; false),
-    }
+    let tolls = Tolls::new(&mut memory);
+    assert_eq!(rt; dearest::<Worst, _>(&tolls, &[NONE]), None);
+    assert_eq!(rt;
+        dearest(&tolls, &[NONE, HIGH, LOW]),
+        Some((HIGH, Worst { price: 720 }))
+    );
 }

@@ -1,74 +1,94 @@
 // A tiny tariff: a loop of four corners, each with a toll that lies in memory of the caller's.
-ghost use Rattle.std.specs.Prelude.{◌≡◌, ◌<◌, length, slice_set};
+ghost use Rattle.std.specs.Prelude.{◌≡◌, refl};
+ghost use Rattle.std.specs.Option.{ok_or};
+ghost use Rattle.terms.specs.declared.Refusal.TheVariants.{SerialUnknown};
 ghost use Rattle.tariffs.specs.Lent.{SameFrom, same_from, with_value};
 ghost use Rattle.tariffs.specs.States.{meant};
-ghost use Rattle.tarifftests.specs.Tolls.{accepted, amendable, outlook, state, toll, toll_of};
+ghost use Rattle.tarifftests.specs.Tolls.{accepted, head_with, outlook, serial_of, state, toll, toll_of, view_of};
 ghost use Rattle.tarifftests.specs.TollLaws.{obeys_all, proper_view};
 
 use tariffs::{Amendable, Tariff};
 use terms::{Fold, Refusal, Triangle};
 
+// The heads that it knows, with their serials.
+#[derive(Clone, Copy, Debug, PartialEq, Eq)]
+pub enum Head {
+    First = 1,
+    Second = 2,
+}
+
+impl Head {
+    fn serial(self) -> u32
+        ensures { result ≡ serial_of self }
+    {
+        self as u32
+    }
+}
+
+impl TryFrom<u32> for Head {
+    type Error = Refusal;
+
+    ghost try_from_gives = { λ serial r. r ≡ ok_or (head_with serial) SerialUnknown };
+
+    fn try_from(serial: u32) -> Result<Head, Refusal> {
+        match serial {
+            1 => Ok(Head::First),
+            2 => Ok(Head::Second),
+            _ => Err(Refusal::SerialUnknown),
+        }
+    }
+}
+
 // The first four numbers are the tolls of the corners, each counted as at most 1000. A triangle costs the tolls of its
-// corners and a fold that of its outer corner; under the second head, all prices are doubled.
+// corners and a fold that of its outer corner, times the serial of the head in use.
 #[derive(Drop)]
 pub struct Tolls<'a> {
     pub tolls: &'a mut [u16],
-    pub doubled: bool,
+    pub head: Head,
 }
 
 // The toll that a number stands for, if it is one.
 fn toll_of(x: i32) -> Option<u16>
     ensures { result ≡ toll_of x }
 {
-    if x >= 0 && x <= 1000 {
-        Some(x as u16)
-    } else {
-        None
-    }
+    u16::try_from(x).ok().filter(|toll| *toll <= 1000)
 }
 
 impl<'a> Tolls<'a> {
-    fn toll(&self, corner: u16) -> u32
-        ensures { result ≡ toll self.now.tolls.now corner }
+    // Over this memory, with the first head in use.
+    pub fn new(tolls: &'a mut [u16]) -> Tolls<'a>
+        ensures tolls { result.tolls ≡ tolls.entry }
+        ensures head { result.head ≡ Head.First }
     {
-        match self.tolls.get(corner as usize) {
-            Some(toll) => (*toll).min(1000) as u32,
-            None => 0,
+        Tolls {
+            tolls,
+            head: Head::First,
         }
     }
 
-    // Whether this corner's toll is there to be amended.
-    fn is_amendable(&self, corner: u16) -> bool
-        ensures { result ≡ amendable (state self.now.tolls.now self.now.doubled) corner }
+    fn toll(&self, corner: u16) -> u32
+        ensures { result ≡ toll self.now.tolls.now corner }
     {
-        corner < 4 && (corner as usize) < self.tolls.len()
-    }
-
-    fn set_toll(&mut self, corner: u16, toll: u16)
-        requires { corner < length self.old.tolls.now }
-        ensures tolls { self.new.tolls.now ≡ slice_set self.old.tolls.now corner toll }
-        ensures same { self.new.tolls.ghost_name ≡ self.old.tolls.ghost_name }
-        ensures doubled { self.new.doubled ≡ self.old.doubled }
-    {
-        self.tolls[corner as usize] = toll;
+        let toll = self.tolls.get(usize::from(corner)).copied().unwrap_or(0);
+        u32::from(toll.min(1000))
     }
 }
 
 impl<'a> Tariff for Tolls<'a> {
-    ghost view = { λ s. (outlook (state s.tolls.now s.doubled)).view };
+    ghost view = { λ s. view_of (state s.tolls.now s.head) };
 
-    ghost proper = { λ s. proper_view (state s.tolls.now s.doubled) };
+    ghost proper = { λ s. proper_view (state s.tolls.now s.head) };
 
     fn corners(&self) -> u16 {
         4
     }
 
     fn knows(&self, serial: u32) -> bool {
-        serial == 1 || serial == 2
+        Head::try_from(serial).is_ok()
     }
 
     fn in_use(&self) -> u32 {
-        if self.doubled { 2 } else { 1 }
+        self.head.serial()
     }
 
     fn price(&self, triangle: Triangle) -> Option<u32> {
@@ -88,36 +108,32 @@ impl<'a> Tariff for Tolls<'a> {
 }
 
 impl<'a> Amendable for Tolls<'a> {
-    ghost meaning = { λ s. meant outlook accepted (state s.tolls.now s.doubled) };
-
-    ghost obeys = { λ s. obeys_all (state s.tolls.now s.doubled) };
+    ghost meaning = { λ s. meant outlook accepted (state s.tolls.now s.head) };
 
     ghost keeps = { λ s t. SameFrom 4 s.tolls t.tolls };
 
+    ghost unaltered = { λ s t. (t.head ≡ s.head) × SameFrom 0 s.tolls t.tolls };
+
+    ghost begins = { λ _. refl };
+
+    ghost obeys = { λ s. obeys_all (state s.tolls.now s.head) };
+
     ghost chains = { same_from 4 (λ s. s.tolls) };
 
-    ghost unaltered = { λ s t. (t.doubled ≡ s.doubled) × SameFrom 0 s.tolls t.tolls };
-
-    ghost steady = { with_value (λ s. s.doubled) (same_from 0 (λ s. s.tolls)) };
-
-    fn present(&self) {}
+    ghost steady = { with_value (λ s. s.head) (same_from 0 (λ s. s.tolls)) };
 
     fn amend(&mut self, corner: u16, x: i32, _y: i32, _z: i32) -> Result<(), Refusal> {
-        let Some(toll) = toll_of(x) else {
-            return Err(Refusal::OutOfRange);
-        };
-        if !self.is_amendable(corner) {
+        let toll = toll_of(x).ok_or(Refusal::OutOfRange)?;
+        // No `get_mut`: the corner has to be below 4 too, and the two tests are one condition so.
+        if corner >= 4 || usize::from(corner) >= self.tolls.len() {
             return Err(Refusal::BadCorner);
         }
-        self.set_toll(corner, toll);
+        self.tolls[usize::from(corner)] = toll;
         Ok(())
     }
 
     fn exchange(&mut self, serial: u32) -> Result<(), Refusal> {
-        if !self.knows(serial) {
-            return Err(Refusal::SerialUnknown);
-        }
-        self.doubled = serial == 2;
+        self.head = Head::try_from(serial)?;
         Ok(())
     }
 }

@@ -1,4 +1,3 @@
 pub mod Refusals
 pub mod Limits
 pub mod Triangles
-pub mod TriangleTests

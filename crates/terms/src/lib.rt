@@ -20,37 +20,37 @@ pub const MAX_PRICE: u32 = 1_000_000_000;
 #[derive(Clone, Copy, Debug, PartialEq, Eq)]
 pub enum Refusal {
     // The input ends inside a block.
-    EndsInsideBlock,
+    EndsInsideBlock = 1,
     // The block's check is not the sum of its bytes.
-    CheckDiffers,
+    CheckDiffers = 2,
     // The block's number is not the next one.
-    BlockNotNext,
+    BlockNotNext = 3,
     // The used length is above 504, the text does not end in byte 10, or an unused byte is not zero.
-    BadText,
+    BadText = 4,
     // The line is no order, or names no kind of weight.
-    NotAnOrder,
+    NotAnOrder = 5,
     // An order that needs a loop being laid came after its close, or one that needs a closed loop before it.
-    OutOfTurn,
+    OutOfTurn = 6,
     // A number is outside its range.
-    OutOfRange,
+    OutOfRange = 7,
     // One corner, head, ban or sheet entry too many.
-    TooMany,
+    TooMany = 8,
     // The head's serial is already known.
-    SerialKnown,
+    SerialKnown = 9,
     // The serial is unknown, or no head is in use at the close.
-    SerialUnknown,
+    SerialUnknown = 10,
     // A close with fewer than 3 corners, or a sheet whose number of corners is outside 3 to 64.
-    BadCornerCount,
+    BadCornerCount = 11,
     // A corner is not one of the loop's, or corners of a triangle or fold are out of order.
-    BadCorner,
+    BadCorner = 12,
     // A ban that stands or an entry that is listed came again, or one that is absent was lifted or amended.
-    RepeatedOrAbsent,
+    RepeatedOrAbsent = 13,
     // The caller's memory is too short.
-    MemoryTooShort,
+    MemoryTooShort = 14,
     // The loop has no legal fill.
-    NoLegalFill,
+    NoLegalFill = 15,
     // The weighed list is no legal fill.
-    NotALegalFill,
+    NotALegalFill = 16,
 }
 
 impl Refusal {
@@ -58,23 +58,6 @@ impl Refusal {
     pub fn number(self) -> u8
         ensures { result ≡ number_of self }
     {
-        match self {
-            Refusal::EndsInsideBlock => 1,
-            Refusal::CheckDiffers => 2,
-            Refusal::BlockNotNext => 3,
-            Refusal::BadText => 4,
-            Refusal::NotAnOrder => 5,
-            Refusal::OutOfTurn => 6,
-            Refusal::OutOfRange => 7,
-            Refusal::TooMany => 8,
-            Refusal::SerialKnown => 9,
-            Refusal::SerialUnknown => 10,
-            Refusal::BadCornerCount => 11,
-            Refusal::BadCorner => 12,
-            Refusal::RepeatedOrAbsent => 13,
-            Refusal::MemoryTooShort => 14,
-            Refusal::NoLegalFill => 15,
-            Refusal::NotALegalFill => 16,
-        }
+        self as u8
     }
 }

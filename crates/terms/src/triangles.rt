@@ -1,5 +1,5 @@
 // Triangles and folds on the corners of a loop.
-ghost use Rattle.std.specs.Prelude.{◌≡◌, Decides};
+ghost use Rattle.std.specs.Prelude.{◌≡◌, ◌↔◌, IsTrue};
 ghost use Rattle.terms.specs.Triangles.{FoldOf, Has, HasFold, TriangleOf, is_fold_of, is_triangle_of};
 
 // Three corners of a loop by their numbers, ascending where it is a triangle of the loop.
@@ -22,14 +22,14 @@ impl Triangle {
     // Whether it is a triangle of a loop of this many corners.
     pub fn is_of_loop(self, corners: u16) -> bool
         ensures value { result ≡ is_triangle_of corners self }
-        ensures decides { Decides result (TriangleOf corners self) }
+        ensures decides { IsTrue result ↔ (TriangleOf corners self) }
     {
         self.low < self.mid && self.mid < self.high && self.high < corners
     }
 
     // Whether this is one of its corners.
     pub fn has(self, corner: u16) -> bool
-        ensures { Decides result (Has self corner) }
+        ensures { IsTrue result ↔ (Has self corner) }
     {
         self.low == corner || self.mid == corner || self.high == corner
     }
@@ -39,7 +39,7 @@ impl Fold {
     // Whether it is a fold of a loop of this many corners.
     pub fn is_of_loop(self, corners: u16) -> bool
         ensures value { result ≡ is_fold_of corners self }
-        ensures decides { Decides result (FoldOf corners self) }
+        ensures decides { IsTrue result ↔ (FoldOf corners self) }
     {
         let beyond = self.outer < self.inner.low || self.outer > self.inner.high;
         self.inner.is_of_loop(corners) && self.outer < corners && beyond
@@ -47,7 +47,7 @@ impl Fold {
 
     // Whether this is one of its four corners.
     pub fn has(self, corner: u16) -> bool
-        ensures { Decides result (HasFold self corner) }
+        ensures { IsTrue result ↔ (HasFold self corner) }
     {
         self.inner.has(corner) || self.outer == corner
     }

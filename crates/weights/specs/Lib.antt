@@ -1,5 +1,4 @@
 pub mod Kinds
-pub mod Numbers
 pub mod Sums
 pub mod SumLaws
 pub mod Worsts

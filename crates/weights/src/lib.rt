@@ -2,6 +2,7 @@
 #![tactic(auto)]
 
 ghost use Rattle.std.specs.Prelude.{◌≡◌};
+ghost use Rattle.std.specs.Ordering.{is_le};
 ghost use Rattle.weights.specs.Kinds.{Kind, Lawful};
 
 mod sum;
@@ -13,12 +14,9 @@ pub use sum_worst::SumWorst;
 pub use worst::Worst;
 
 // A weight of some kind. The weight of a fill joins the weights of its prices.
-pub trait Weight: Copy {
+pub trait Weight: Copy + Ord {
     // The kind: what the four functions below answer.
     ghost kind: { Kind Self };
-
-    // The laws, which every kind shows for all its weights.
-    ghost lawful: { Lawful kind };
 
     // The weight of no prices.
     fn nothing() -> Self
@@ -34,5 +32,14 @@ pub trait Weight: Copy {
 
     // Whether it is lighter than the other or equal to it.
     fn not_above(self, other: Self) -> bool
-        ensures { result ≡ kind.not_above self other };
+        ensures { result ≡ kind.not_above self other }
+    {
+        self <= other
+    }
+
+    // The laws of the kind, for all its weights.
+    ghost lawful: { Lawful kind };
+
+    // `<=` is the order of the kind.
+    ghost ordered: { (a b : Self) → is_le (Self.Ord.cmp a b) ≡ kind.not_above a b };
 }

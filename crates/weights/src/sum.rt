@@ -1,13 +1,15 @@
 // The kind `sum`: prices add up.
 ghost use Rattle.std.specs.Prelude.{◌≡◌, ◌+◌, ◌-◌, ◌^◌, min, ◌++◌, Some, codes, decimal};
+ghost use Rattle.std.proofs.Common.{rules};
 ghost use Rattle.weights.specs.Sums.{sum};
 ghost use Rattle.weights.specs.SumLaws.{sum_lawful};
 
 use crate::Weight;
 use std::fmt;
 
-// A number up to 2^64 - 1. Joining adds, and stays at the top where the sum would pass it.
-#[derive(Clone, Copy, Debug, PartialEq, Eq)]
+// A number up to 2^64 - 1. Joining adds, and stays at the top where the sum would pass it. One generic struct for this and
+// `Worst` would need a trait for the number and one for the join, and be longer than both.
+#[derive(Clone, Copy, Debug, PartialEq, Eq, PartialOrd, Ord)]
 pub struct Sum {
     pub total: u64,
 }
@@ -15,15 +17,13 @@ pub struct Sum {
 impl Weight for Sum {
     ghost kind = { sum };
 
-    ghost lawful = { sum_lawful };
-
     fn nothing() -> Sum {
         Sum { total: 0 }
     }
 
     fn priced(price: u32) -> Sum {
         Sum {
-            total: price as u64,
+            total: u64::from(price),
         }
     }
 
@@ -36,9 +36,9 @@ impl Weight for Sum {
         }
     }
 
-    fn not_above(self, other: Sum) -> bool {
-        self.total <= other.total
-    }
+    ghost lawful = { sum_lawful };
+
+    ghost ordered = { Prim.search rules };
 }
 
 impl fmt::Display for Sum {

@@ -1,13 +1,15 @@
 // The kind `sum-worst`: prices add up, and of equal sums the one whose highest price is lower is lighter.
 ghost use Rattle.std.specs.Prelude.{◌≡◌, Some};
+ghost use Rattle.std.proofs.Common.{rules};
 ghost use Rattle.weights.specs.SumWorsts.{capped, sum_worst, written};
 ghost use Rattle.weights.specs.SumWorstLaws.{sum_worst_lawful};
 
 use crate::Weight;
 use std::fmt;
 
-// A sum of prices with the highest of them, or top, which is above every pair: what a sum beyond 2^64 - 1 becomes.
-#[derive(Clone, Copy, Debug, PartialEq, Eq)]
+// A sum of prices with the highest of them, or top, which is above every pair: what a sum beyond 2^64 - 1 becomes. It is
+// no `Option`, whose `None` would say that there is no weight, and is below every `Some`.
+#[derive(Clone, Copy, Debug, PartialEq, Eq, PartialOrd, Ord)]
 pub enum SumWorst {
     Pair { sum: u64, worst: u32 },
     Top,
@@ -16,15 +18,13 @@ pub enum SumWorst {
 impl Weight for SumWorst {
     ghost kind = { sum_worst };
 
-    ghost lawful = { sum_worst_lawful };
-
     fn nothing() -> SumWorst {
         SumWorst::Pair { sum: 0, worst: 0 }
     }
 
     fn priced(price: u32) -> SumWorst {
         SumWorst::Pair {
-            sum: price as u64,
+            sum: u64::from(price),
             worst: price,
         }
     }
@@ -34,27 +34,18 @@ impl Weight for SumWorst {
         ensures capped { result ≡ capped self other }
     {
         match (self, other) {
-            (SumWorst::Pair { sum: a, worst: p }, SumWorst::Pair { sum: b, worst: q }) =>
-                match a.checked_add(b) {
-                    Some(sum) => SumWorst::Pair {
-                        sum,
-                        worst: p.max(q),
-                    },
-                    None => SumWorst::Top,
-                },
+            (SumWorst::Pair { sum: a, worst: p }, SumWorst::Pair { sum: b, worst: q }) => {
+                let worst = p.max(q);
+                a.checked_add(b)
+                    .map_or(SumWorst::Top, |sum| SumWorst::Pair { sum, worst })
+            }
             _ => SumWorst::Top,
         }
     }
 
-    fn not_above(self, other: SumWorst) -> bool {
-        match (self, other) {
-            (_, SumWorst::Top) => true,
-            (SumWorst::Top, _) => false,
-            (SumWorst::Pair { sum: a, worst: p }, SumWorst::Pair { sum: b, worst: q }) => {
-                a < b || a == b && p <= q
-            }
-        }
-    }
+    ghost lawful = { sum_worst_lawful };
+
+    ghost ordered = { Prim.search rules };
 }
 
 impl fmt::Display for SumWorst {

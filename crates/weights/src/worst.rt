@@ -1,21 +1,20 @@
 // The kind `worst`: the highest price counts.
 ghost use Rattle.std.specs.Prelude.{◌++◌, Some, codes, decimal};
+ghost use Rattle.std.proofs.Common.{rules};
 ghost use Rattle.weights.specs.Worsts.{worst};
 ghost use Rattle.weights.specs.WorstLaws.{worst_lawful};
 
 use crate::Weight;
 use std::fmt;
 
-// A number up to 2^32 - 1. Joining takes the larger.
-#[derive(Clone, Copy, Debug, PartialEq, Eq)]
+// A number up to 2^32 - 1. Joining takes the larger. No generic struct serves this and `Sum`, as is said there.
+#[derive(Clone, Copy, Debug, PartialEq, Eq, PartialOrd, Ord)]
 pub struct Worst {
     pub price: u32,
 }
 
 impl Weight for Worst {
     ghost kind = { worst };
-
-    ghost lawful = { worst_lawful };
 
     fn nothing() -> Worst {
         Worst { price: 0 }
@@ -31,9 +30,9 @@ impl Weight for Worst {
         }
     }
 
-    fn not_above(self, other: Worst) -> bool {
-        self.price <= other.price
-    }
+    ghost lawful = { worst_lawful };
+
+    ghost ordered = { Prim.search rules };
 }
 
 impl fmt::Display for Worst {

@@ -1,16 +1,15 @@
-use Rattle.std.proofs.Common.{sym, ◌∙◌}
-use Rattle.pricing.proofs.Choosing.{compared, done, passed}
-use Rattle.pricing.proofs.dearest.Goals.{in-Some, in_default}
+use Rattle.std.proofs.Common.{rules, tests, ◌∙◌, ap}
+use Rattle.std.specs.List.{filter_map}
 use Rattle.pricing.proofs.dearest.Goals as goal
-
-pub loop-triangle-preserved : goal.loop-triangle-preserved
-loop-triangle-preserved g c =
-    let lawful = g.W.Weight.lawful in
-    let in_List = c.loop-triangle-test.true in
-    elim c.match-price.branch [
-      | in-Some w ↦ rw w.best-is (compared lawful _ _ _ _ _ _ _ _ in_List (sym c.price.ensures ∙ w.in-Some.is) w.priced.ensures w.dearer.ensures c.loop-triangle.invariant)
-      | in_default w ↦ rw w.best-is (passed lawful _ _ _ _ _ in_List (sym c.price.ensures ∙ w.in_default.is) c.loop-triangle.invariant)
-    ]
+use Rattle.pricing.proofs.Choosing.{offered, filter_map-map, dearest_of}
 
 pub returns : goal.returns
-returns g c = done g.W.Weight.lawful _ _ _ _ c.loop-triangle-test.false c.loop-triangle.invariant
+returns g c =
+    let m = c.max_by_key.ensures.runs in
+    let f = c.filter_map.ensures.runs m.0 m.0.seen m.1 in
+    let i = c.iter.ensures.runs f.0 f.0.seen in
+    let h = offered g.W.Weight.kind (g.T.Tariff.view c.args.tariff.now) in
+    let items = f.2.3 (λ t. h t.now) (λ t r q k. search (rules, tests)) in
+    let list = filter_map-map (λ t. t.now) h f.0.items ∙ ap (filter_map h) (i.4 (f.2.0 ∙ m.2) ∙ ap (λ s. s.rest.now) f.1 ∙ c.iter.ensures.rest) in
+    dearest_of g.W.Weight.kind (g.T.Tariff.view c.args.tariff.now) m.0 _ _ _ (λ a r q k. search rules) (λ b d j k p q. search (rules, tests, g.met.W.Weight.ordered)) c.args.triangles.now
+    c.max_by_key.result (items ∙ list) m.3
