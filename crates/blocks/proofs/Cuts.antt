@@ -1,11 +1,13 @@
 -- A text and the lines that it is cut into.
-use Rattle.std.proofs.Common.{◌≡◌, ℕ, suc, ◌+◌, ◌-◌, ◌<◌, Bool, true, false, cond, eqb, ltb, List, [], ◌∷◌, ◌++◌, length, get_or, take, drop, sym, refl, ap, ◌∙◌, add-one, one-add, arith, Bor}
-use Rattle.std.specs.List.{prefix_len, AllByRecursion}
-use Rattle.std.proofs.lemmas.List.{append_assoc, at_drop_more, length-drop, length-take-le, drop-drop, map_push}
-use Rattle.std.proofs.lemmas.List.Sums.{prefix_len-le-length}
-use Rattle.std.proofs.lemmas.Bool.{ltb-false, le-ltb, eqb-true, ne_eqb}
+use Rattle.std.proofs.Common.{All, ◌≡◌, ℕ, suc, ◌+◌, ◌-◌, ◌<◌, Bool, true, false, cond, eqb, List, [], ◌∷◌, ◌++◌, length, get_or, take, drop, sym, refl, ap, ◌∙◌, add-one, one-add, arith, Bor}
+use Rattle.std.specs.Prelude.{◌==◌, nat_lt}
+use Rattle.std.specs.List.{list_any, prefix_len}
+use Rattle.std.proofs.lemmas.Grind.{common_steps}
+use Rattle.std.proofs.lemmas.List.{at_drop_more}
+use Rattle.std.proofs.lemmas.List.Elements.{All-nil, All-cons, All-head, All-tail}
+use Rattle.std.proofs.lemmas.Bool.{eqb-true, ne_eqb}
 use Rattle.blocks.specs.Layout.{ended}
-use Rattle.blocks.specs.Lines.{onto, cut, placed, in_line, lent, text_from, Unbroken, CutsWhole}
+use Rattle.blocks.specs.Lines.{onto, cut, in_line, lent, text_from, Unbroken, CutsWhole}
 
 -- the first line goes up to the first byte 10 or to the end, and the others follow
 abbrev First : List ℕ → Type 0
@@ -25,56 +27,27 @@ pub cut_first : (bs : List ℕ) → 0 < length bs → First bs
 cut_first [] h = absurd (omega arith)
 cut_first (b ∷ bs) h = first_by_end b bs (eqb b 10) refl (cut_first bs)
 
--- the lines from a place in a text on, with their places, where the first has n bytes
-pub placed_first : (text : List ℕ) (from n : ℕ) → from < length text → n ≡ prefix_len in_line (drop from text) → placed (4 + from) (cut (drop from text)) ≡ (4 + from, take n (drop from text)) ∷ placed (4 + (from + n + 1)) (cut (drop (from + n + 1) text))
-placed_first text from n h e =
-    let rest = drop from text in
-    let m = prefix_len in_line rest in
-    let some : 0 < length rest = simp length-drop (omega arith) in
-    let long : length (take m rest) ≡ m = length-take-le m rest (prefix_len-le-length in_line rest) in
-    let at : 4 + from + length (take m rest) + 1 ≡ 4 + (from + m + 1) = omega arith in
-    let far : from + (m + 1) ≡ from + m + 1 = omega arith in
-    ap (placed (4 + from)) (cut_first rest some)
-    ∙ ap (λ k. (4 + from, take m rest) ∷ placed k (cut (drop (m + 1) rest))) at
-    ∙ ap (λ l. (4 + from, take m rest) ∷ placed (4 + (from + m + 1)) (cut l)) (drop-drop (m + 1) from text ∙ ap (λ k. drop k text) far)
-    ∙ ap (λ k. (4 + from, take k rest) ∷ placed (4 + (from + k + 1)) (cut (drop (from + k + 1) text))) (sym e)
-
--- no byte of the line ends it
-abbrev pub Whole : List ℕ → Type 0
-Whole line = ltb (prefix_len in_line line) (length line) ≡ false
-
-whole_more : (b : ℕ) (line : List ℕ) (e : Bool) → eqb b 10 ≡ e → Whole (b ∷ line) → (eqb b 10 ≡ false) × Whole line
-whole_more b line true q w = absurd (let z = rw q at w in omega (arith, ltb-false 0 (length (b ∷ line)) z))
-whole_more b line false q w =
-    let z = rw q at w in
-    (q, le-ltb (prefix_len in_line line) (length line) (omega (arith, ltb-false (1 + prefix_len in_line line) (length (b ∷ line)) z)))
+unbroken_more : (b : ℕ) (line : List ℕ) (e : Bool) → eqb b 10 ≡ e → Unbroken (b ∷ line) → (eqb b 10 ≡ false) × Unbroken line
+unbroken_more b line true q w = absurd (let z = rw q at w in omega arith)
+unbroken_more b line false q w = let z = rw q at w in (q, omega arith)
 
 -- a line with a byte 10 behind it is cut off
-pub cut_line : (line rest : List ℕ) → Whole line → cut (line ++ (10 ∷ rest)) ≡ line ∷ cut rest
+pub cut_line : (line rest : List ℕ) → Unbroken line → cut (line ++ (10 ∷ rest)) ≡ line ∷ cut rest
 cut_line [] rest w = refl
 cut_line (b ∷ line) rest w =
-    let p = whole_more b line (eqb b 10) refl w in
+    let p = unbroken_more b line (eqb b 10) refl w in
     rw p.0 (ap (onto b) (cut_line line rest p.1))
-
--- one line more is cut off the rest of a text
-pub cut_more : (done : List (List ℕ)) (text rest : List ℕ) (n : ℕ) → 0 < length rest → n ≡ prefix_len in_line rest → done ++ cut rest ≡ cut text → (done ++ (take n rest ∷ [])) ++ cut (drop (n + 1) rest) ≡ cut text
-cut_more done text rest n some e before =
-    append_assoc done (take n rest ∷ []) (cut (drop (n + 1) rest))
-    ∙ ap (λ k. done ++ (take k rest ∷ cut (drop (k + 1) rest))) e
-    ∙ ap (λ l. done ++ l) (sym (cut_first rest some))
-    ∙ before
-
-pub lent_push : (refs more : List (Bor (List ℕ))) (line : Bor (List ℕ)) → more ≡ refs ++ (line ∷ []) → lent more ≡ lent refs ++ (line.now ∷ [])
-lent_push refs more line e = ap lent e ∙ map_push (λ (r : Bor (List ℕ)). r.now) refs line
 
 -- a byte in front of the first line is one in front of the text
 onto_text : (b : ℕ) (lines : List (List ℕ)) → 0 < length lines → text_from (onto b lines) ≡ b ∷ text_from lines
 onto_text b [] h = absurd (omega arith)
 onto_text b (line ∷ lines) h = refl
 
-onto_unbroken : (b : ℕ) (lines : List (List ℕ)) → eqb b 10 ≡ false → AllByRecursion Unbroken lines → AllByRecursion Unbroken (onto b lines)
-onto_unbroken b [] q h = (rw q refl, tt)
-onto_unbroken b (line ∷ lines) q h = (rw q (omega (arith, h.0)), h.1)
+onto_unbroken : (b : ℕ) (lines : List (List ℕ)) → eqb b 10 ≡ false → All Unbroken lines → All Unbroken (onto b lines)
+onto_unbroken b [] q h = All-cons Unbroken (b ∷ []) [] (rw q refl) h
+onto_unbroken b (line ∷ lines) q h =
+    let first = All-head Unbroken line lines h in
+    All-cons Unbroken (b ∷ line) lines (rw q (omega arith)) (All-tail Unbroken line lines h)
 
 cut_some : (b : ℕ) (bs : List ℕ) (e : Bool) → 0 < length (cond e ([] ∷ cut bs) (onto b (cut bs)))
 cut_some b bs true = omega arith
@@ -94,13 +67,16 @@ ended_more b d bs h =
     let last : length (d ∷ bs) - 1 ≡ length bs = omega arith in
     ended_last d bs ∙ ap (λ k. eqb (get_or (d ∷ bs) k 0) 10) last ∙ ap (λ k. eqb (get_or (b ∷ d ∷ bs) k 0) 10) (sym first) ∙ sym (ended_last b (d ∷ bs)) ∙ h
 
-whole_by : (b : ℕ) (bs : List ℕ) (e : Bool) → eqb b 10 ≡ e → 0 < length (cut bs) → (text_from (cut bs) ≡ bs) × AllByRecursion Unbroken (cut bs) → (text_from (cut (b ∷ bs)) ≡ b ∷ bs) × AllByRecursion Unbroken (cut (b ∷ bs))
-whole_by b bs true q some h = rw q (ap (λ t. 10 ∷ t) h.0 ∙ ap (λ k. k ∷ bs) (sym (eqb-true b 10 q)), (refl, h.1))
+whole_by : (b : ℕ) (bs : List ℕ) (e : Bool) → eqb b 10 ≡ e → 0 < length (cut bs) → (text_from (cut bs) ≡ bs) × All Unbroken (cut bs) → (text_from (cut (b ∷ bs)) ≡ b ∷ bs) × All Unbroken (cut (b ∷ bs))
+whole_by b bs true q some h =
+    rw q (ap (λ t. 10 ∷ t) h.0 ∙ ap (λ k. k ∷ bs) (sym (eqb-true b 10 q)), All-cons Unbroken [] (cut bs) refl h.1)
 whole_by b bs false q some h = rw q (onto_text b (cut bs) some ∙ ap (λ t. b ∷ t) h.0, onto_unbroken b (cut bs) q h.1)
 
 pub cuts_whole : CutsWhole
-cuts_whole [] h = (refl, tt)
-cuts_whole (b ∷ []) h = let ten = eqb-true b 10 h in rw ten (refl, (refl, tt))
+cuts_whole [] h = (refl, All-nil Unbroken)
+cuts_whole (b ∷ []) h =
+    let ten = eqb-true b 10 h in
+    rw ten (refl, All-cons Unbroken [] [] refl (All-nil Unbroken))
 cuts_whole (b ∷ d ∷ bs) h = whole_by b (d ∷ bs) (eqb b 10) refl (cut_some d bs (eqb d 10)) (cuts_whole (d ∷ bs) (ended_more b d bs h))
 
 -- the lines that a slice lends, from a place on: the line there and those behind it. A read past the end gives nowhere.
@@ -112,3 +88,8 @@ line_at lines i = (get_or lines i nowhere).now
 
 pub lent_from : (lines : List (Bor (List ℕ))) (i : ℕ) → i < length lines → lent (drop i lines) ≡ line_at lines i ∷ lent (drop (i + 1) lines)
 lent_from lines i h = at_drop_more lent lines i nowhere h
+
+-- a line holds a byte 10 exactly where its part before one is shorter than it
+pub broken_if : (line : List ℕ) → list_any (λ b. b == 10) line ≡ nat_lt (prefix_len in_line line) (length line)
+broken_if [] = refl
+broken_if (b ∷ line) = grind (arith, common_steps, broken_if line)

@@ -1,4 +1,3 @@
-pub mod Texts
 pub mod Cuts
 pub mod Sealed
 pub mod Packed

@@ -1,40 +1,47 @@
 -- Packing line by line: what holds after each, and at the end.
-use Rattle.std.proofs.Common.{◌≡◌, ℕ, ◌+◌, ◌-◌, ◌<◌, ◌≤◌, Bool, true, false, cond, ltb, List, [], ◌∷◌, ◌++◌, length, get_or, Ok, Err, sym, refl, ap, ◌∙◌, subst, add-one, arith}
-use Rattle.std.specs.List.{prefix_len}
+use Rattle.std.proofs.Common.{All, ◌≡◌, ℕ, zero, suc, ◌+◌, ◌-◌, ◌<◌, ◌≤◌, Bool, true, false, cond, List, [], ◌∷◌, ◌++◌, length, get_or, Ok, Err, Result, Vec, Global, vec_items, sym, refl, ap, ◌∙◌, subst, add-one, arith}
 use Rattle.std.proofs.lemmas.List.{append_assoc, append-nil, length-append, get_or-append-add}
-use Rattle.std.proofs.lemmas.Bool.{ltb-false, le-leb, lt-leb, ne_eqb}
+use Rattle.std.specs.Bool.{MatchBool}
+use Rattle.std.proofs.lemmas.List.Elements.{All-nil, All-cons, All-head, All-tail, All-push}
+use Rattle.std.proofs.lemmas.List.Sums.{prefix_len-le-length}
+use Rattle.std.proofs.lemmas.Bool.Decides.{nat_tests}
+use Rattle.std.proofs.lemmas.Bool.{leb-true, leb-false, le-leb, lt-leb, ne_eqb}
 use Rattle.blocks.specs.declared.packing.PackError.{PackError}
 use Rattle.blocks.specs.declared.packing.PackError.TheVariants.{LineTooLong, LineBroken, TooManyBlocks, OutOfMemory}
 use Rattle.blocks.specs.Layout.{ended, text_of, verdict}
-use Rattle.blocks.specs.Lines.{cut, in_line, text_from}
-use Rattle.blocks.specs.Packing.{fits, begun, grouped, blocks_from, block_of, Holds, checked, Packs}
+use Rattle.blocks.specs.Lines.{Unbroken, cut, in_line, text_from}
+use Rattle.blocks.specs.declared.packer.Packer.{Packer}
+use Rattle.blocks.specs.Packer.{Adds, Finishes, Seals}
+use Rattle.blocks.specs.Packing.{fits, has_room, items_of, begun, grouped, blocks_from, block_of, Holds, checked, Packs}
 use Rattle.blocks.specs.Packing.Holds.{nothing, block}
-use Rattle.blocks.proofs.Cuts.{Whole, cut_line}
+use Rattle.blocks.proofs.Cuts.{cut_line}
 use Rattle.blocks.proofs.Sealed.{sealed_length, sealed_text}
 
 -- lines that may stand in a block
-abbrev pub Fine : List (List ℕ) → Type 0
-Fine [] = Unit {0}
-Fine (line ∷ lines) = (length line ≤ 503) × Whole line × Fine lines
+abbrev pub Packable : List ℕ → Type 0
+Packable line = (length line ≤ 503) × Unbroken line
 
-one_checked : (k : ℕ) (line : List ℕ) (lines : List (List ℕ)) (a b : Bool) → ltb 503 (length line) ≡ a → ltb (prefix_len in_line line) (length line) ≡ b → (checked (k + 1) lines ≡ Ok tt → Fine lines) → cond a (Err (LineTooLong k)) (cond b (Err (LineBroken k)) (checked (k + 1) lines)) ≡ Ok tt → Fine (line ∷ lines)
-one_checked k line lines true b p q later e = absurd (let z : ◌≡◌ {A = ℕ} 0 1 = cc in omega arith)
-one_checked k line lines false true p q later e = absurd (let z : ◌≡◌ {A = ℕ} 0 1 = cc in omega arith)
-one_checked k line lines false false p q later e = (ltb-false 503 (length line) p, q, later e)
+abbrev pub Fine : List (List ℕ) → Type 0
+Fine lines = All Packable lines
+
+line_checked : (k : ℕ) (line : List ℕ) (lines : List (List ℕ)) → checked k (line ∷ lines) ≡ Ok tt → Packable line × (checked (k + 1) lines ≡ Ok tt)
+line_checked k line lines e =
+    let le = prefix_len-le-length in_line line in
+    grind (arith, nat_tests)
 
 pub fine_from_checked : (k : ℕ) (lines : List (List ℕ)) → checked k lines ≡ Ok tt → Fine lines
-fine_from_checked k [] e = tt
-fine_from_checked k (line ∷ lines) e = one_checked k line lines _ _ refl refl (fine_from_checked (k + 1) lines) e
+fine_from_checked k [] e = All-nil Packable
+fine_from_checked k (line ∷ lines) e =
+    let p = line_checked k line lines e in
+    All-cons Packable line lines p.0 (fine_from_checked (k + 1) lines p.1)
 
 -- a fault in a line is no want of numbers
-line_fault : (k : ℕ) (line : List ℕ) (lines : List (List ℕ)) (a b : Bool) → (checked (k + 1) lines ≡ Err TooManyBlocks → ⊥) → cond a (Err (LineTooLong k)) (cond b (Err (LineBroken k)) (checked (k + 1) lines)) ≡ Err TooManyBlocks → ⊥
-line_fault k line lines true b later e = let z : ◌≡◌ {A = ℕ} 0 1 = cc in omega arith
-line_fault k line lines false true later e = let z : ◌≡◌ {A = ℕ} 0 1 = cc in omega arith
-line_fault k line lines false false later e = later e
+not_many : (k : ℕ) (line : List ℕ) (lines : List (List ℕ)) → checked k (line ∷ lines) ≡ Err TooManyBlocks → checked (k + 1) lines ≡ Err TooManyBlocks
+not_many k line lines e = grind (arith, nat_tests)
 
 fault_not_many : (k : ℕ) (lines : List (List ℕ)) → checked k lines ≡ Err TooManyBlocks → ⊥
-fault_not_many k [] e = let z : ◌≡◌ {A = ℕ} 0 1 = cc in omega arith
-fault_not_many k (line ∷ lines) e = line_fault k line lines (ltb 503 (length line)) (ltb (prefix_len in_line line) (length line)) (fault_not_many (k + 1) lines) e
+fault_not_many k [] e = cc
+fault_not_many k (line ∷ lines) e = fault_not_many (k + 1) lines (not_many k line lines e)
 
 pub fault_answered : (lines : List (List ℕ)) (e : PackError) → checked 0 lines ≡ Err e → Packs lines (Err e)
 fault_answered lines TooManyBlocks h = absurd (fault_not_many 0 lines h)
@@ -66,15 +73,13 @@ ended_text (line ∷ group) =
 -- and is cut into them again
 pub cut_text : (group : List (List ℕ)) → Fine group → cut (text_from group) ≡ group
 cut_text [] f = refl
-cut_text (line ∷ group) f = cut_line line (text_from group) f.1 ∙ ap (λ l. line ∷ l) (cut_text group f.2)
+cut_text (line ∷ group) f =
+    cut_line line (text_from group) (All-head Packable line group f).1
+    ∙ ap (λ l. line ∷ l) (cut_text group (All-tail Packable line group f))
 
 text_push : (group : List (List ℕ)) (line : List ℕ) → text_from (group ++ (line ∷ [])) ≡ text_from group ++ (line ++ (10 ∷ []))
 text_push [] line = refl
 text_push (first ∷ group) line = ap (λ t. first ++ (10 ∷ t)) (text_push group line) ∙ sym (append_assoc first (10 ∷ text_from group) (line ++ (10 ∷ [])))
-
-fine_push : (group : List (List ℕ)) (line : List ℕ) → Fine group → length line ≤ 503 → Whole line → Fine (group ++ (line ∷ []))
-fine_push [] line f l w = (l, w, tt)
-fine_push (first ∷ group) line f l w = (f.0, f.1, fine_push group line f.2 l w)
 
 -- lines packed so far: some sealed in blocks, a group in the open block, and the rest to come
 pub record Sofar (lines rest : List (List ℕ)) (job : List ℕ) (number : ℕ) (text : List ℕ) : Type 0 where
@@ -98,15 +103,12 @@ none_sofar lines f = record {
   same = refl;
   short = omega arith;
   low = omega arith;
-  fine = tt;
+  fine = All-nil Packable;
   later = f;
   bytes = refl;
   count = omega arith;
   holds = λ more after h. h;
 }
-
-pub sofar_at : (lines rest : List (List ℕ)) (job job' text text' : List ℕ) (number number' : ℕ) → job' ≡ job → number' ≡ number → text' ≡ text → Sofar lines rest job number text → Sofar lines rest job' number' text'
-sofar_at lines rest job job' text text' number number' a b d s = rw (a, b, d) s
 
 -- the text of the open block ends in byte 10
 pub open_ended : (lines rest : List (List ℕ)) (job text : List ℕ) (number : ℕ) → Sofar lines rest job number text → ended text ≡ true
@@ -127,8 +129,8 @@ line_fits lines rest line job text number s room =
       same = ap (λ t. t ++ (line ++ (10 ∷ []))) s.same ∙ sym (text_push s.group line);
       short = simp length-append (omega arith);
       low = s.low;
-      fine = fine_push s.group line s.fine s.later.0 s.later.1;
-      later = s.later.2;
+      fine = All-push Packable s.group line s.fine (All-head Packable line rest s.later);
+      later = All-tail Packable line rest s.later;
       bytes = ap (λ b. job ++ blocks_from number (split s.group rest line b)) (sym test) ∙ s.bytes;
       count = ap (λ b. number + length (split s.group rest line b)) (sym test) ∙ s.count;
       holds = s.holds;
@@ -143,16 +145,17 @@ pub line_next : (lines rest : List (List ℕ)) (line job text : List ℕ) (numbe
 line_next lines rest line job text number s full low passes =
     let test : fits s.group line ≡ false = lt-leb _ _ (omega (arith, ap length s.same)) in
     let after : List ℕ = blocks_from (number + 1) (grouped (line ∷ []) rest) in
+    let first = All-head Packable line rest s.later in
     let held = held_group s.group number text s.short s.same s.fine in
     record {
       sealed = s.sealed ++ s.group;
       group = line ∷ [];
       whole = append_assoc s.sealed s.group (line ∷ rest) ∙ s.whole;
       same = refl;
-      short = simp length-append (omega (arith, s.later.0));
+      short = simp length-append (omega (arith, first.0));
       low = low;
-      fine = (s.later.0, s.later.1, tt);
-      later = s.later.2;
+      fine = All-cons Packable line [] first (All-nil Packable);
+      later = All-tail Packable line rest s.later;
       bytes = append_assoc job (block_of number text) after ∙ ap (λ t. job ++ (block_of number t ++ after)) s.same ∙ ap (λ b. job ++ blocks_from number (split s.group rest line b)) (sym test) ∙ s.bytes;
       count = one_more number _ ∙ ap (λ b. number + length (split s.group rest line b)) (sym test) ∙ s.count;
       holds = λ more lines' h. subst (λ j. Holds 0 j ((s.sealed ++ s.group) ++ lines')) (sym (append_assoc job (block_of number text) more)) (subst (Holds 0 (job ++ (block_of number text ++ more))) (sym (append_assoc s.sealed s.group lines')) (s.holds _ _ (subst (λ l. Holds number (block_of number text ++ more) (l ++ lines')) held (block number (block_of number text) more lines' (sealed_length number text s.short) passes h))));
@@ -207,3 +210,39 @@ last_sealed lines job text number s ok some passes =
       ap (λ t. job ++ block_of number t) s.same ∙ ap (λ b. job ++ b) (sym (append-nil (block_of number (text_from s.group)))) ∙ ap (λ g. job ++ blocks_from number g) (sym one) ∙ s.bytes,
       subst (λ b. Holds 0 (job ++ b) lines) (append-nil sealed) (subst (Holds 0 (job ++ (sealed ++ []))) (ap (λ l. s.sealed ++ (l ++ [])) held ∙ s.whole) (s.holds _ _ (block number sealed [] [] (sealed_length number text s.short) passes nothing))),
     )
+
+-- the same of a packer
+abbrev pub Packing : List (List ℕ) → List (List ℕ) → Packer → Type 0
+Packing lines rest packer = Sofar lines rest (vec_items packer.job) packer.number (vec_items packer.text)
+
+pub none_packed : (lines : List (List ℕ)) (packer : Packer) → Fine lines → vec_items packer.job ≡ [] → packer.number ≡ 0 → vec_items packer.text ≡ [] → Packing lines lines packer
+none_packed lines packer f a b d = rw (a, b, d) (none_sofar lines f)
+
+pub line_added : (lines rest : List (List ℕ)) (line : List ℕ) (before after : Packer) → Packing lines (line ∷ rest) before → Adds before line (Ok tt) after → Packing lines rest after
+line_added lines rest line before after s adds = by_room (has_room (vec_items before.text) line) refl adds
+  where
+    by_room : (b : Bool) → has_room (vec_items before.text) line ≡ b → MatchBool b ((vec_items after.job ≡ vec_items before.job) × (after.number ≡ before.number) × (vec_items after.text ≡ vec_items before.text ++ (line ++ (10 ∷ [])))) (Seals before (vec_items after.job) × (after.number ≡ before.number + 1) × (after.number < 65536) × (vec_items after.text ≡ line ++ (10 ∷ []))) → Packing lines rest after
+    by_room true e h = rw (h.0, h.1, h.2) (line_fits lines rest line _ _ _ s (leb-true _ _ e))
+    by_room false e h =
+        rw (h.0.0, h.1, h.3) (line_next lines rest line _ _ _ s (leb-false _ _ e) (omega (arith, h.1, h.2)) (h.0.1 (open_ended _ _ _ _ _ s)))
+
+pub not_added : (lines rest : List (List ℕ)) (line : List ℕ) (before after : Packer) (e : PackError) → checked 0 lines ≡ Ok tt → Packing lines (line ∷ rest) before → Adds before line (Err e) after → Packs lines (Err e)
+not_added lines rest line before after TooManyBlocks ok s h =
+    (ok, too_many lines rest line _ _ _ s (leb-false _ _ h.0) (omega (arith, h.1)))
+not_added lines rest line before after OutOfMemory ok s h = tt
+not_added lines rest line before after (LineTooLong k) ok s h = cc
+not_added lines rest line before after (LineBroken k) ok s h = cc
+
+pub all_packed : (lines : List (List ℕ)) (packer : Packer) (r : Result (Vec ℕ Global) PackError) → checked 0 lines ≡ Ok tt → Packing lines [] packer → Finishes packer r → Packs lines (items_of r)
+all_packed lines packer (Ok job) ok s h = by_length (length (vec_items packer.text)) refl
+  where
+    by_length : (n : ℕ) → n ≡ length (vec_items packer.text) → Packs lines (Ok (vec_items job))
+    by_length zero e = rw (h.0 (sym e)) (all_sealed lines _ _ _ s ok (sym e))
+    by_length (suc n) e =
+        let some : 0 < length (vec_items packer.text) = omega arith in
+        let sealed = h.1 some in
+        rw sealed.0 (last_sealed lines _ _ _ s ok some (sealed.1 (open_ended _ _ _ _ _ s)))
+all_packed lines packer (Err OutOfMemory) ok s h = tt
+all_packed lines packer (Err TooManyBlocks) ok s h = cc
+all_packed lines packer (Err (LineTooLong k)) ok s h = cc
+all_packed lines packer (Err (LineBroken k)) ok s h = cc

@@ -1,18 +1,11 @@
 -- A block that is made from a number and a text passes its check, and its text is that text.
-use Rattle.std.proofs.Common.{◌≡◌, ℕ, zero, suc, ◌+◌, ◌-◌, ◌*◌, ◌/◌, ◌%◌, ◌^◌, ◌<◌, ◌≤◌, true, List, ◌++◌, length, get_or, take, drop, replicate, Ok, sym, refl, ap, ◌∙◌, mod-eq_of_lt, arith}
+use Rattle.std.proofs.Common.{◌≡◌, ℕ, zero, suc, ◌+◌, ◌-◌, ◌*◌, ◌/◌, ◌%◌, ◌^◌, ◌<◌, ◌≤◌, true, List, ◌∷◌, ◌++◌, length, get_or, take, drop, replicate, Ok, sym, refl, ap, ◌∙◌, mod-eq_of_lt, arith}
 use native.Mathlib.Nat.{div-div-eq-div-mul, div-add-mod}
-use Rattle.std.proofs.lemmas.List.{length-append, length-replicate, take_at, drop_at, take_all, get_or-append-add}
+use Rattle.std.proofs.lemmas.List.{drop-replicate, replicate-append-replicate, append_assoc, append-nil, length-append, length-replicate, take_at, drop_at, get_or-append-add}
 use Rattle.std.proofs.lemmas.Bool.{eq-eqb, le-leb}
+use borrow.Rule.Slice.PartMut.{put_mid}
 use Rattle.blocks.specs.Layout.{number16, number32, weighted, check_of, used, text_of, unused, ended, zeros, good_text, verdict}
 use Rattle.blocks.specs.Packing.{bytes16, bytes32, body_of, block_of}
-
--- bytes that were put together are the body of a block
-pub body_made : (number : ℕ) (text front xs : List ℕ) (n : ℕ) → length text ≤ 504 → front ≡ bytes16 number ++ bytes16 (length text) ++ text → n ≡ length front → xs ≡ take 508 front ++ replicate (508 - n) 0 → xs ≡ body_of number text
-unfolding body_of
-body_made number text front xs n short e long made =
-    let size : length front ≡ 4 + length text = omega (arith, ap length e) in
-    let left : 508 - n ≡ 504 - length text = omega arith in
-    made ∙ ap (λ l. l ++ replicate (508 - n) 0) (take_all 508 front (omega arith) ∙ e) ∙ ap (λ k. (bytes16 number ++ bytes16 (length text) ++ text) ++ replicate k 0) left
 
 pub body_length : (number : ℕ) (text : List ℕ) → length text ≤ 504 → length (body_of number text) ≡ 508
 unfolding body_of
@@ -80,3 +73,44 @@ module _ (number : ℕ) (text : List ℕ) (short : length text ≤ 504) where
   sealed_passes low e small =
       let first : number16 (block_of number text) 0 ≡ number = sealed_number low in
       rw (eq-eqb _ _ (sealed_held small ∙ sym sealed_check), eq-eqb _ _ first, sealed_good e) refl
+
+-- the bytes of a block, as they are written over zeros one part after the other
+zeros_left : (n : ℕ) (text : List ℕ) → n ≡ length text → length text ≤ 504 → drop {A = ℕ} (4 + n - 4) (replicate 508 0) ≡ replicate (504 - length text) 0 ++ replicate 4 0
+zeros_left n text long short =
+    let k : 508 - (4 + n - 4) ≡ 504 - length text + 4 = omega arith in
+    rw (drop-replicate, k, replicate-append-replicate) refl
+
+text_written : (p q r s n : ℕ) (text after rest more : List ℕ) → drop (4 + n - 4) after ≡ rest ++ more → put_mid 4 (4 + n - 4) (p ∷ q ∷ r ∷ s ∷ after) text ≡ p ∷ q ∷ r ∷ s ∷ ((text ++ rest) ++ more)
+text_written p q r s n text after rest more e =
+    ap (λ l. p ∷ q ∷ r ∷ s ∷ (text ++ l)) e ∙ ap (λ l. p ∷ q ∷ r ∷ s ∷ l) (sym (append_assoc text rest more))
+
+module _ (number n : ℕ) (text zeroed a b t : List ℕ) (none : zeroed ≡ replicate 512 0) (first : a ≡ bytes16 number) (second : b ≡ bytes16 n) (long : n ≡ length text) (third : t ≡ text) (short : length text ≤ 504) where
+  abbrev pub unchecked : List ℕ
+  unchecked = put_mid 4 (4 + n - 4) (put_mid 2 2 (a ++ drop 2 zeroed) b) t
+
+  body_written : unchecked ≡ body_of number text ++ replicate 4 0
+  unfolding body_of
+  body_written =
+      let start : put_mid 2 2 (a ++ drop 2 zeroed) b ≡ bytes16 number ++ (bytes16 n ++ replicate 508 0) = rw (none, first, second) refl in
+      let same : bytes16 n ≡ bytes16 (length text) = ap bytes16 long in
+      ap (λ h. put_mid 4 (4 + n - 4) h t) (start ∙ ap (λ l. bytes16 number ++ (l ++ replicate 508 0)) same)
+      ∙ ap (put_mid 4 (4 + n - 4) (bytes16 number ++ (bytes16 (length text) ++ replicate 508 0))) third
+      ∙ text_written _ _ _ _ n text (replicate 508 0) _ _ (zeros_left n text long short)
+
+  check_written : check_of unchecked ≡ weighted 1 (body_of number text)
+  check_written = ap check_of body_written ∙ ap (weighted 1) (take_at (body_of number text) (replicate 4 0) 508 (body_length number text short))
+
+  module _ (sum : ℕ) (d : List ℕ) (summed : sum ≡ check_of unchecked) (last : d ≡ bytes32 sum) where
+    pub block_written : put_mid 508 4 unchecked d ≡ block_of number text
+    unfolding block_of
+    block_written =
+        let body = body_of number text in
+        let long_body = body_length number text short in
+        ap (λ u. put_mid 508 4 u d) body_written
+        ∙ ap (λ l. l ++ (d ++ drop 4 (drop 508 (body ++ replicate 4 0)))) (take_at body (replicate 4 0) 508 long_body)
+        ∙ ap (λ l. body ++ (d ++ drop 4 l)) (drop_at body (replicate 4 0) 508 long_body)
+        ∙ ap (λ l. body ++ l) (append-nil d ∙ last ∙ ap bytes32 (summed ∙ check_written))
+
+    pub block_passes : number < 65536 → sum < 2 ^ 32 → ended text ≡ true → verdict (put_mid 508 4 unchecked d) number ≡ Ok tt
+    block_passes low small e =
+        ap (λ b. verdict b number) block_written ∙ sealed_passes number text short low e (omega (arith, summed, check_written))

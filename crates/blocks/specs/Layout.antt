@@ -1,5 +1,6 @@
 -- What the 512 bytes of a block mean, and when a block passes. Assumes nothing.
 use Rattle.std.specs.Prelude.{ℕ, ◌+◌, ◌-◌, ◌*◌, Bool, true, cond, ◌&&◌, List, [], ◌∷◌, length, take, drop, Ok, Err, Result, ◌==◌, nat_le, slice_index}
+use Rattle.std.specs.List.{list_all}
 use Rattle.terms.specs.declared.Refusal.{Refusal}
 use Rattle.terms.specs.declared.Refusal.TheVariants.{CheckDiffers, BlockNotNext, BadText}
 
@@ -34,8 +35,7 @@ abbrev pub ended : List ℕ → Bool
 ended text = cond (length text == 0) true (slice_index text (length text - 1) == 10)
 
 abbrev pub zeros : List ℕ → Bool
-zeros [] = true
-zeros (b ∷ bs) = b == 0 && zeros bs
+zeros bytes = list_all (λ b. b == 0) bytes
 
 abbrev pub good_text : List ℕ → Bool
 good_text block = nat_le (used block) 504 && (ended (text_of block) && zeros (unused block))

@@ -2,3 +2,4 @@ pub mod Layout
 pub mod Lines
 pub mod Reading
 pub mod Packing
+pub mod Packer

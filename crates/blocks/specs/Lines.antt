@@ -1,7 +1,7 @@
 -- The lines of a text, and where they stand. Assumes nothing.
-use Rattle.std.specs.Prelude.{◌≡◌, ℕ, ◌+◌, Bool, true, cond, not, List, [], ◌∷◌, ◌++◌, map, length, ◌==◌}
+use Rattle.std.specs.Prelude.{◌≡◌, ℕ, ◌+◌, All, Bool, true, cond, not, List, [], ◌∷◌, ◌++◌, map, length, ◌==◌}
 use Rattle.std.specs.Borrow.{Bor}
-use Rattle.std.specs.List.{prefix_len, AllByRecursion}
+use Rattle.std.specs.List.{prefix_len}
 use Rattle.blocks.specs.Layout.{ended, text_of}
 
 -- a byte in front of the first line
@@ -32,7 +32,7 @@ Unbroken line = prefix_len in_line line ≡ length line
 
 -- cutting loses nothing: the lines of a text that is empty or ends in byte 10 make up that text, and none holds a byte 10
 abbrev pub CutsWhole : Type 0
-CutsWhole = (text : List ℕ) → ended text ≡ true → (text_from (cut text) ≡ text) × AllByRecursion Unbroken (cut text)
+CutsWhole = (text : List ℕ) → ended text ≡ true → (text_from (cut text) ≡ text) × All Unbroken (cut text)
 
 -- each line with its place, where the first begins at a given one
 abbrev pub placed : ℕ → List (List ℕ) → List (ℕ × List ℕ)

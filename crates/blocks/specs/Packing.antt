@@ -22,9 +22,13 @@ body_of number text = bytes16 number ++ (bytes16 (length text) ++ (text ++ repli
 unfoldable pub block_of : ℕ → List ℕ → List ℕ
 block_of number text = body_of number text ++ bytes32 (weighted 1 (body_of number text))
 
+-- whether a line and its byte 10 have room behind a text in one block
+abbrev pub has_room : List ℕ → List ℕ → Bool
+has_room text line = nat_le (length text + length line + 1) 504
+
 -- whether a line has room behind others in one block
 abbrev pub fits : List (List ℕ) → List ℕ → Bool
-fits group line = nat_le (length (text_from group) + length line + 1) 504
+fits group line = has_room (text_from group) line
 
 -- a group that has begun is the last one, unless it is empty
 abbrev pub begun : List (List ℕ) → List (List (List ℕ))
@@ -76,8 +80,3 @@ Packs lines (Err (LineBroken k)) = checked 0 lines ≡ Err (LineBroken k)
 abbrev pub items_of : Result (Vec ℕ Global) PackError → Result (List ℕ) PackError
 items_of (Ok job) = Ok (vec_items job)
 items_of (Err e) = Err e
-
--- for the private functions: more was put behind what there was, or memory ran out
-abbrev pub Appends : List ℕ → List ℕ → Result (Unit {0}) PackError → List ℕ → Type 0
-Appends before more (Ok done) after = after ≡ before ++ more
-Appends before more (Err e) after = e ≡ OutOfMemory

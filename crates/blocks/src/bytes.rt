@@ -8,10 +8,5 @@ pub fn len_before(bytes: &[u8], stop: u8) -> usize
     ensures value { result ≡ prefix_len (differs stop) bytes.now }
     ensures bound { result ≤ length bytes.now }
 {
-    for (i, b) in bytes.iter().enumerate() {
-        if *b == stop {
-            return i;
-        }
-    }
-    bytes.len()
+    bytes.iter().take_while(|b| **b != stop).count()
 }

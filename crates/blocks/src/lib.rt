@@ -3,6 +3,7 @@
 
 mod bytes;
 mod check;
+mod packer;
 mod packing;
 mod reader;
 

@@ -5,34 +5,28 @@
 
 ghost use Rattle.std.specs.Prelude.{◌≡◌};
 
-use anyhow::anyhow;
+use anyhow::{Context, ensure};
 use std::io::Read;
-use std::{env, fs, io};
+use std::{env, fs};
 
 // The input of a program that takes one file, or standard input where none is named. Where help is asked for, it is
 // printed and there is no input.
 pub fn input(rt: &HostRuntime, help: &str) -> anyhow::Result<Option<Vec<u8>>> {
-    let mut args = env::args(rt)?;
-    let _program = args.next();
+    let mut args = env::args(rt)?.skip(1);
     let Some(first) = args.next() else {
         return Ok(Some(standard_input(rt)?));
     };
-    if args.next().is_some() {
-        return Err(anyhow!("more than one file is named; --help says what is taken"));
-    }
+    ensure!(
+        args.next().is_none(),
+        "more than one file is named; --help says what is taken"
+    );
     let name = first.as_str();
-    if name == "--help" || name == "-h" {
+    if matches!(name, "--help" | "-h") {
         rt.println(help)?;
         return Ok(None);
     }
-    match fs::read(rt, name) {
-        Ok(bytes) => Ok(Some(bytes)),
-        Err(e) => Err(unreadable(name, e)),
-    }
-}
-
-fn unreadable(name: &str, e: io::Error) -> anyhow::Error {
-    anyhow::Error::from(e).context(name)
+    let bytes = fs::read(rt, name).context(name)?;
+    Ok(Some(bytes))
 }
 
 fn standard_input(rt: &HostRuntime) -> anyhow::Result<Vec<u8>> {
@@ -49,8 +43,7 @@ pub fn explained<T>(
 ) -> anyhow::Result<T>
     ensures { result ≡ outcome }
 {
-    if let Err(e) = &outcome {
+    outcome.inspect_err(|e| {
         let _ = eprintln!(rt; "{program}: {e:#}");
-    }
-    outcome
+    })
 }

@@ -9,19 +9,18 @@ const HELP: &str = "jobcheck [FILE]
 Lists the job in FILE, or on standard input: each order and each refusal with its block and line, then a summary.
 Ends with status 1 where anything was refused.";
 
-// Answers whether nothing was refused.
-fn run(rt: &HostRuntime) -> anyhow::Result<bool> {
+fn run(rt: &HostRuntime) -> anyhow::Result<ExitCode> {
     let Some(job) = input(rt, HELP)? else {
-        return Ok(true);
+        return Ok(ExitCode::SUCCESS);
     };
     let listing = list_job(rt.alloc(), job.as_slice())?;
     rt.write_all(listing.text.as_slice())?;
-    Ok(listing.refused == 0)
+    if listing.refused > 0 {
+        return Ok(ExitCode::FAILURE);
+    }
+    Ok(ExitCode::SUCCESS)
 }
 
 fn main(rt: HostRuntime) -> ExitCode {
-    match explained(&rt, "jobcheck", run(&rt)) {
-        Ok(true) => ExitCode::SUCCESS,
-        _ => ExitCode::FAILURE,
-    }
+    explained(&rt, "jobcheck", run(&rt)).unwrap_or(ExitCode::FAILURE)
 }

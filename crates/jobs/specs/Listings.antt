@@ -1,5 +1,5 @@
 -- What the listing of a job says, from its first byte to its last. Assumes nothing.
-use Rattle.std.specs.Prelude.{◌≡◌, ℕ, ◌+◌, ◌<◌, List, [], ◌∷◌, ◌++◌, length, take, drop, Ok, Err, codes, decimal}
+use Rattle.std.specs.Prelude.{◌≡◌, ℕ, Bool, true, false, count_by, ◌+◌, ◌<◌, List, [], ◌∷◌, ◌++◌, length, take, drop, Ok, Err, codes, decimal}
 use Rattle.std.specs.List.{flat_map}
 use Rattle.terms.specs.declared.Refusal.{Refusal}
 use Rattle.terms.specs.declared.Refusal.TheVariants.{NotAnOrder}
@@ -57,11 +57,13 @@ printed (refused_at refusal block line) = codes "refused " ++ (decimal (number_o
 abbrev pub summary : ℕ → ℕ → ℕ → List ℕ
 summary blocks lines refusals = codes "blocks " ++ (decimal blocks ++ (codes " lines " ++ (decimal lines ++ (codes " refused " ++ (decimal refusals ++ (10 ∷ []))))))
 
+abbrev pub is_refusal : Entry → Bool
+is_refusal (order_at block line bytes) = false
+is_refusal (refused_at refusal block line) = true
+
 -- how many entries are refusals
 abbrev pub refusals_in : List Entry → ℕ
-refusals_in [] = 0
-refusals_in (order_at block line bytes ∷ entries) = refusals_in entries
-refusals_in (refused_at refusal block line ∷ entries) = 1 + refusals_in entries
+refusals_in entries = count_by is_refusal entries
 
 -- the text lists the job
 pub record Listed (job text : List ℕ) (refusals : ℕ) : Type 0 where
@@ -71,12 +73,3 @@ pub record Listed (job text : List ℕ) (refusals : ℕ) : Type 0 where
   pub lists : Lists 0 0 job entries blocks lines
   pub counts : refusals ≡ refusals_in entries
   pub prints : text ≡ flat_map printed entries ++ summary blocks lines refusals
-
--- for the private functions: the lines of a block are printed behind what was printed before. Then there are so many
--- lines of the job, and so many of the block's were refused.
-pub record Adds (block : List ℕ) (number before : ℕ) (was : List ℕ) (lines refusals : ℕ) (is : List ℕ) : Type 0 where
-  pub entries : List Entry
-  pub lists : ListsLines number before (cut (text_of block)) entries
-  pub counts : refusals ≡ refusals_in entries
-  pub reaches : lines ≡ before + length (cut (text_of block))
-  pub prints : is ≡ was ++ flat_map printed entries

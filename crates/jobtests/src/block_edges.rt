@@ -1,25 +1,16 @@
 // Which 512 bytes are a block, and what its lines are.
-use blocks::{BLOCK_SIZE, Block, Reader, check_block, next_block, sum_of};
-use std::test::Fail;
+use blocks::{BLOCK_SIZE, Block, PlacedLine, Reader, check_block, next_block, sum_of};
 use terms::Refusal;
 
 // A block whose check is right: its number, the used length that it names, and its text.
 fn block_with(number: u8, used: u16, text: &[u8]) -> Block {
     let mut block = [0u8; BLOCK_SIZE];
-    let length = used.to_le_bytes();
     block[0] = number;
-    block[2] = length[0];
-    block[3] = length[1];
-    for (i, b) in text.iter().enumerate() {
-        if i < 504 {
-            block[4 + i] = *b;
-        }
-    }
-    let check = sum_of(&block).to_le_bytes();
-    block[508] = check[0];
-    block[509] = check[1];
-    block[510] = check[2];
-    block[511] = check[3];
+    block[2..4].copy_from_slice(&used.to_le_bytes());
+    let room = text.len().min(504);
+    block[4..4 + room].copy_from_slice(&text[..room]);
+    let check = sum_of(&block);
+    block[508..].copy_from_slice(&check.to_le_bytes());
     block
 }
 
@@ -82,24 +73,39 @@ fn numbers_and_checks(rt: HostRuntime) {
 #[test]
 fn cut_blocks(rt: HostRuntime) {
     let block = block_with(0, 0, b"");
-    assert!(rt; matches!(next_block(&block[0..0], 0), Err(Refusal::EndsInsideBlock)));
-    assert!(rt; matches!(next_block(&block[0..1], 0), Err(Refusal::EndsInsideBlock)));
-    assert!(rt; matches!(next_block(&block[0..511], 0), Err(Refusal::EndsInsideBlock)));
+    assert_eq!(rt;
+        next_block(&block[0..0], 0).err(),
+        Some(Refusal::EndsInsideBlock)
+    );
+    assert_eq!(rt;
+        next_block(&block[0..1], 0).err(),
+        Some(Refusal::EndsInsideBlock)
+    );
+    assert_eq!(rt;
+        next_block(&block[0..511], 0).err(),
+        Some(Refusal::EndsInsideBlock)
+    );
     assert!(rt; next_block(&block, 0).is_ok());
 }
 
 #[test]
-fn lines_with_their_places(rt: HostRuntime) -> Result<(), Fail> {
+fn lines_with_their_places(rt: HostRuntime) {
     let block = block_with(0, 8, b"use 1\n\n\n");
     let mut reader = Reader::new(&block);
-    let first = reader.next_line().ok_or("no line")?;
-    assert_eq!(rt; first.offset, 4);
-    assert!(rt; first.bytes == b"use 1".as_slice());
-    let second = reader.next_line().ok_or("no line")?;
-    assert_eq!(rt; second.offset, 10);
-    assert!(rt; second.bytes.is_empty());
-    let third = reader.next_line().ok_or("no line")?;
-    assert_eq!(rt; third.offset, 11);
-    assert!(rt; reader.next_line().is_none());
-    Ok(())
+    assert_eq!(rt;
+        reader.next(),
+        Some(PlacedLine {
+            offset: 4,
+            bytes: b"use 1"
+        })
+    );
+    assert_eq!(rt;
+        reader.next(),
+        Some(PlacedLine {
+            offset: 10,
+            bytes: b""
+        })
+    );
+    assert_eq!(rt; reader.next().map(|line| line.offset), Some(11));
+    assert!(rt; reader.next().is_none());
 }

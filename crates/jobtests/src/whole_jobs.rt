@@ -1,19 +1,17 @@
 // Packing lines, and listing whole jobs.
 use blocks::{BLOCK_SIZE, PackError, pack, split_lines};
 use jobs::list_job;
-use std::alloc::Global;
 use std::process::Abort;
 use std::test::Fail;
 
 // Whether the listing of a job is this text.
 fn lists(
-    rt: &impl Abort,
-    heap: Global,
+    rt: &(impl Abort + AllocGlobal),
     job: &[u8],
     text: &[u8],
     refused: usize,
 ) -> Result<(), Fail> {
-    let listing = list_job(heap, job)?;
+    let listing = list_job(rt.alloc(), job)?;
     assert!(rt; listing.text.as_slice() == text);
     assert_eq!(rt; listing.refused, refused);
     Ok(())
@@ -21,10 +19,9 @@ fn lists(
 
 #[test]
 fn a_job_of_nothing(rt: HostRuntime) -> Result<(), Fail> {
-    lists(&rt, rt.alloc(), b"", b"blocks 0 lines 0 refused 0\n", 0)?;
+    lists(&rt, b"", b"blocks 0 lines 0 refused 0\n", 0)?;
     lists(
         &rt,
-        rt.alloc(),
         b"x",
         b"refused 1 block 0 line 0\nblocks 0 lines 0 refused 1\n",
         1,
@@ -40,7 +37,7 @@ fn a_line_that_is_no_order(rt: HostRuntime) -> Result<(), Fail> {
     let job = pack(rt.alloc(), &[b"fill", b"fill \xff", b"note \xff"])?;
     let text =
         b"block 0 line 1: fill\nrefused 5 block 0 line 2\nblock 0 line 3: note \xff\nblocks 1 lines 3 refused 1\n";
-    lists(&rt, rt.alloc(), job.as_slice(), text, 1)
+    lists(&rt, job.as_slice(), text, 1)
 }
 
 #[test]
@@ -49,7 +46,7 @@ fn a_second_block_that_is_not_the_next(rt: HostRuntime) -> Result<(), Fail> {
     let again = pack(rt.alloc(), &[b"fill"])?;
     job.extend_from_slice(again.as_slice())?;
     let text = b"block 0 line 1: fill\nrefused 3 block 1 line 0\nblocks 1 lines 1 refused 1\n";
-    lists(&rt, rt.alloc(), job.as_slice(), text, 1)
+    lists(&rt, job.as_slice(), text, 1)
 }
 
 #[test]
@@ -65,42 +62,31 @@ fn lines_that_just_fit(rt: HostRuntime) -> Result<(), Fail> {
         pack(rt.alloc(), &[&long[0..251], &long[0..252]])?.len(),
         2 * BLOCK_SIZE
     );
-    assert!(rt;
-        matches!(
-            pack(rt.alloc(), &[b"fill", &longer]),
-            Err(PackError::LineTooLong { line: 1 })
-        )
+    assert_eq!(rt;
+        pack(rt.alloc(), &[b"fill", &longer]).err(),
+        Some(PackError::LineTooLong { line: 1 })
     );
-    assert!(rt;
-        matches!(
-            pack(rt.alloc(), &[b"a\nb"]),
-            Err(PackError::LineBroken { line: 0 })
-        )
+    assert_eq!(rt;
+        pack(rt.alloc(), &[b"a\nb"]).err(),
+        Some(PackError::LineBroken { line: 0 })
     );
     Ok(())
 }
 
 // Whether packing these lines fails, and says this.
-fn fails(rt: &impl Abort, heap: Global, lines: &[&[u8]], text: &str) -> Result<(), Fail> {
-    match pack(heap, lines) {
-        Ok(_) => Err(Fail::new("the lines were packed")),
-        Err(e) => {
-            assert!(rt; format!(in heap; "{e}")?.as_str() == text);
-            Ok(())
-        },
-    }
+fn fails(rt: &(impl Abort + AllocGlobal), lines: &[&[u8]], text: &str) -> Result<(), Fail> {
+    let fault = pack(rt.alloc(), lines)
+        .err()
+        .ok_or("the lines were packed")?;
+    assert!(rt; format!(in rt.alloc(); "{fault}")?.as_str() == text);
+    Ok(())
 }
 
 #[test]
 fn what_people_are_told(rt: HostRuntime) -> Result<(), Fail> {
     let longer = [b'a'; 504];
-    fails(
-        &rt,
-        rt.alloc(),
-        &[b"fill", &longer],
-        "line 2 has more than 503 bytes",
-    )?;
-    fails(&rt, rt.alloc(), &[b"a\nb"], "line 1 holds a line break")
+    fails(&rt, &[b"fill", &longer], "line 2 has more than 503 bytes")?;
+    fails(&rt, &[b"a\nb"], "line 1 holds a line break")
 }
 
 #[test]

@@ -1,13 +1,16 @@
 -- Numbers in decimal, and numbers one after another: what `parse` reads of a word of the right form, and that a
 -- number and what follows it are found in one way.
-use Rattle.std.proofs.Common.{◌≡◌, ℕ, zero, suc, ◌^◌, ◌<◌, ◌≤◌, Bool, ◌⊎◌, List, [], ◌∷◌, ◌++◌, length, get_or, take, drop, ℤ, pos, negsuc, neg_ℤ, nat_abs, Some, Ok, Err, codes, IsUtf8, decimal, Option, Result, sym, refl, ap, ◌∙◌, subst, inl, inr, arith, w64, to_z, of_z}
+use Rattle.std.proofs.Common.{◌≡◌, ◌≢◌, ℕ, zero, suc, ◌+◌, ◌-◌, ◌^◌, ◌<◌, ◌≤◌, Bool, false, List, [], ◌∷◌, ◌++◌, length, get_or, take, drop, ℤ, pos, negsuc, neg_ℤ, Some, Ok, Err, codes, IsUtf8, decimal, Option, Result, sym, refl, ap, ◌∙◌, subst, inl, inr, arith, add-zero, MatchOption, ◌==◌, set, w64, to_z, of_z}
 use lib.Signed.{mag}
 use Rattle.std.specs.Str.Parse.{AllDigits, digits_value, ParsesSigned}
+use Rattle.std.specs.Bool.{then_some}
 use Rattle.std.specs.Result.{result_ok}
 use Rattle.std.specs.Fmt.{signed_decimal}
 use Rattle.std.specs.List.{prefix_len}
 use Rattle.std.proofs.lemmas.Fmt.{decimal_is_IsNumeral, decimal_digit, decimal-digits_value, first_decimal, decimal_nonempty, length-decimal-le, signed_decimal_injective, IsAscii-signed, parse-signed_decimal}
-use Rattle.std.proofs.lemmas.List.{take_at, drop_at, take-append-drop, drop_more, length-drop, get_or-drop}
+use Rattle.std.proofs.lemmas.List.{take_at, drop_at, take-append-drop, drop_more, length-drop, get_or-drop, append_assoc, append-nil, length_push, take_more_set}
+use Rattle.std.proofs.lemmas.List.Sums.{prefix_len_stops}
+use Rattle.std.proofs.lemmas.List.Elements.{All-nil, All-head, All-tail, All-cons}
 use Rattle.std.proofs.lemmas.Str.Parse.{IsNumeralModel, numerals_by_value, tells_digits, digit_from_value, digit_at, digits_value_short, parse_signed_minus, parse_signed_plain}
 use Rattle.std.proofs.lemmas.Int.{to_z-of_z}
 use Rattle.std.proofs.lemmas.Bool.{cases_eq}
@@ -15,7 +18,7 @@ use Rattle.std.proofs.lemmas.Str.{IsUtf8-from_ascii}
 use Rattle.std.proofs.lemmas.Bool.Decides.{nat_tests}
 use Rattle.lines.specs.Grammar.{Short, spaced}
 use Rattle.blocks.specs.Lines.{differs}
-use Rattle.lines.specs.Numbers.{Ends, Formed, NumberIn, Leads, Lists, NoneOf}
+use Rattle.lines.specs.Numbers.{Ends, IsFormed, NumberIn, Leads, Lists, NoneOf}
 
 own : IsNumeralModel (AllDigits 10) (digits_value 10)
 own = numerals_by_value (AllDigits 10) tells_digits
@@ -39,7 +42,7 @@ decimal_padded : (n : ℕ) → n < 10 ^ 10 → get_or (decimal n) 0 0 ≡ 48 →
 decimal_padded zero small h = rw (decimal_digit 0 (omega arith)) (omega arith)
 decimal_padded (suc n) small h = omega (arith, first_decimal (suc n) (omega arith) (omega arith))
 
-pub signed_formed : (z : ℤ) → Short z → Formed (signed_decimal z)
+pub signed_formed : (z : ℤ) → Short z → IsFormed (signed_decimal z)
 signed_formed (pos n) h =
     record {
       plus = λ e. omega (arith, decimal_first n h);
@@ -59,52 +62,40 @@ pub signed_utf8 : (z : ℤ) → Short z → IsUtf8 (signed_decimal z)
 signed_utf8 z h = IsUtf8-from_ascii (signed_decimal z) (IsAscii-signed z (short_mag z h))
 
 -- what `parse` answers of a word of the right form
-signed_minus : (n : ℕ) → 0 < n → signed_decimal (neg_ℤ (pos n)) ≡ 45 ∷ decimal n
-signed_minus zero h = absurd (omega arith)
-signed_minus (suc n) h = refl
+minus : (v : ℕ) (ds : List ℕ) → v < 10 ^ 10 → decimal v ≡ ds → get_or ds 0 0 ≢ 48 → NumberIn (45 ∷ ds) (Some (neg_ℤ (pos v)))
+minus zero ds small e first = absurd (first (ap (λ l. get_or l 0 0) (sym e ∙ decimal_digit 0 (omega arith))))
+minus (suc v) ds small e first = (small, ap (λ l. 45 ∷ l) (sym e))
 
-unsigned_abs_minus : (n : ℕ) → nat_abs (neg_ℤ (pos n)) ≡ n
-unsigned_abs_minus zero = refl
-unsigned_abs_minus (suc n) = refl
-
-abbrev Writes : List ℕ → ℤ → Type 0
-Writes word z = NumberIn word (Some z)
-
-written_minus : (word : List ℕ) (z : ℤ) → Formed word → get_or word 0 0 ≡ 45 → AllDigits 10 (drop 1 word) → 0 < length (drop 1 word) → z ≡ neg_ℤ (pos (digits_value 10 (drop 1 word))) → Writes word z
-written_minus word z f m d some e =
+written_minus : (word : List ℕ) → IsFormed word → get_or word 0 0 ≡ 45 → AllDigits 10 (drop 1 word) → 0 < length (drop 1 word) → NumberIn word (Some (neg_ℤ (pos (digits_value 10 (drop 1 word)))))
+written_minus word f m d some =
     let ds = drop 1 word in
-    let v = digits_value 10 ds in
-    let l : length ds ≤ 10 = omega (arith, (f.minus m).1, length-drop 1 word) in
-    let v-small : v < 10 ^ 10 = digits_value_short own ds 10 d l in
-    let first : get_or ds 0 0 ≡ get_or word 1 0 = get_or-drop 1 word 0 0 in
-    let back : decimal v ≡ ds = decimal-digits_value own ds d some (λ h. absurd ((f.minus m).0 (sym first ∙ h))) (omega arith) in
-    let whole : word ≡ 45 ∷ ds = drop_more word 0 0 (omega (arith, length-drop 1 word)) ∙ ap (λ x. x ∷ ds) m in
-    let zero-not : v ≡ 0 → ⊥ = λ h. (f.minus m).0 (sym first ∙ ap (λ l. get_or l 0 0) (sym back ∙ ap decimal h ∙ decimal_digit 0 (omega arith))) in
-    let v-pos : 0 < v = omega arith in
-    (rw e (rw (unsigned_abs_minus v) v-small), whole ∙ ap (λ l. 45 ∷ l) (sym back) ∙ sym (signed_minus v v-pos) ∙ ap signed_decimal (sym e))
+    let first : get_or ds 0 0 ≢ 48 = λ h. (f.minus m).0 (sym (get_or-drop 1 word 0 0) ∙ h) in
+    let small = digits_value_short own ds 10 d (omega (arith, (f.minus m).1, length-drop 1 word)) in
+    let back = decimal-digits_value own ds d some (λ h. absurd (first h)) (omega arith) in
+    let whole : 45 ∷ ds ≡ word = ap (λ x. x ∷ ds) (sym m) ∙ sym (drop_more word 0 0 (omega (arith, length-drop 1 word))) in
+    subst (λ w. NumberIn w (Some (neg_ℤ (pos (digits_value 10 ds))))) whole (minus (digits_value 10 ds) ds small back first)
 
-written_plain : (word : List ℕ) (z : ℤ) → Formed word → (get_or word 0 0 ≡ 45 → ⊥) → AllDigits 10 word → 0 < length word → z ≡ pos (digits_value 10 word) → Writes word z
-written_plain word z f m d some e =
-    let v = digits_value 10 word in
-    let v-small : v < 10 ^ 10 = digits_value_short own word 10 d (f.plain m) in
-    let back : decimal v ≡ word = decimal-digits_value own word d some (λ h. omega (arith, f.padding h)) (omega arith) in
-    (rw e v-small, sym back ∙ ap signed_decimal (sym e))
+written_plain : (word : List ℕ) → IsFormed word → get_or word 0 0 ≢ 45 → AllDigits 10 word → 0 < length word → NumberIn word (Some (pos (digits_value 10 word)))
+written_plain word f m d some =
+    let small = digits_value_short own word 10 d (f.plain m) in
+    (small, sym (decimal-digits_value own word d some (λ h. omega (arith, f.padding h)) (omega arith)))
 
-reads_ok : (E : Type 0) (word : List ℕ) (z : ℤ) → Formed word → ParsesSigned {E = E} w64 10 word (Ok z) → Writes word z
-reads_ok E word z f h = by (cases_eq (get_or word 0 0) 45)
-  where
-    by : (get_or word 0 0 ≡ 45) ⊎ (get_or word 0 0 ≡ 45 → ⊥) → Writes word z
-    by (inl m) = let p = parse_signed_minus own {E = E} w64 word (Ok z) h m in written_minus word z f m p.0.0 p.0.1 p.1
-    by (inr m) = let p = parse_signed_plain own {E = E} w64 word (Ok z) h f.plus m in written_plain word z f m p.0.0 p.0.1 p.1
-
-pub reads : {E : Type 0} (word : List ℕ) (r : Result ℤ E) (o : Option ℤ) → Formed word → ParsesSigned w64 10 word r → o ≡ result_ok r → NumberIn word o
-reads {E} word (Ok z) o f h p = rw p (reads_ok E word z f h)
-reads {E} word (Err e) o f h p =
-    rw p
+pub reads : {E : Type 0} (word : List ℕ) (r : Result ℤ E) (o : Option ℤ) → IsFormed word → ParsesSigned w64 10 word r → o ≡ result_ok r → NumberIn word o
+reads {E} word (Ok z) o f h e =
+    rw e
+    (elim (cases_eq (get_or word 0 0) 45) [
+      | inl m ↦
+          let p = parse_signed_minus own {E = E} w64 word (Ok z) h m in
+          rw p.1 (written_minus word f m p.0.0 p.0.1)
+      | inr m ↦
+          let p = parse_signed_plain own {E = E} w64 word (Ok z) h f.plus m in
+          rw p.1 (written_plain word f m p.0.0 p.0.1)
+    ])
+reads {E} word (Err x) o f h e =
+    rw e
     (λ z s w.
-    let b = parse-signed_decimal w64 z word (Err e) (record { sfits = short_mag z s }) (short_mag z s) w h in
-    let n : ◌≡◌ {A = ℕ} 0 1 = cc in
-    omega arith)
+    let b = parse-signed_decimal w64 z word (Err x) (record { sfits = short_mag z s }) (short_mag z s) w h in
+    cc)
 
 -- a byte that does not end a number
 abbrev not_space : ℕ → Bool
@@ -126,24 +117,12 @@ leading_signed (negsuc n) more s e =
     omega arith
 
 ends_leading : (bytes : List ℕ) → Ends (drop (prefix_len not_space bytes) bytes)
-ends_leading [] = λ h. omega arith
-ends_leading (b ∷ bytes) =
-    elim (cases_eq b 32) [
-      | inl e ↦
-          let l : prefix_len not_space (b ∷ bytes) ≡ 0 = grind (arith, nat_tests) in
-          subst (λ n. Ends (drop n (b ∷ bytes))) (sym l) (λ h. e)
-      | inr e ↦
-          let l : prefix_len not_space (b ∷ bytes) ≡ suc (prefix_len not_space bytes) = grind (arith, nat_tests) in
-          subst (λ n. Ends (drop n (b ∷ bytes))) (sym l) (ends_leading bytes)
-    ]
-
-tail_of : (bytes : List ℕ) (z : ℤ) (more : List ℕ) → 32 ∷ bytes ≡ codes " " ++ (signed_decimal z ++ more) → bytes ≡ signed_decimal z ++ more
-tail_of bytes z more e = cc
+ends_leading bytes = λ h. grind (arith, nat_tests, prefix_len_stops not_space bytes 0, get_or-drop (prefix_len not_space bytes) bytes 0 0, length-drop (prefix_len not_space bytes) bytes)
 
 -- the number that leads, and what follows it, are cut off where the first space stands
 module _ (bytes : List ℕ) (z : ℤ) (more : List ℕ) (h : Leads (32 ∷ bytes) z more) where
   cut : bytes ≡ signed_decimal z ++ more
-  cut = tail_of bytes z more h.2
+  cut = let e = h.2 in cc
 
   cut_length : prefix_len not_space bytes ≡ length (signed_decimal z)
   cut_length = ap (prefix_len not_space) cut ∙ leading_signed z more h.0 h.1
@@ -164,17 +143,16 @@ leads_same bytes z y more rest h k =
     )
 
 -- the word up to the first space, after a space, is the number or there is none
-module _ (rest tail : List ℕ) (n : ℕ) (split : rest ≡ 32 ∷ tail) (len : n ≡ prefix_len not_space tail) where
-  pub word_leads : (z : ℤ) → Short z → take n tail ≡ signed_decimal z → Leads rest z (drop n tail)
-  word_leads z s e = (
-    s,
-    subst (λ k. Ends (drop k tail)) (sym len) (ends_leading tail),
-    split ∙ ap (λ l. 32 ∷ l) (sym (take-append-drop n tail) ∙ ap (λ l. l ++ drop n tail) e),
-  )
+module _ {rest tail word more : List ℕ} {n : ℕ} (split : rest ≡ 32 ∷ tail) (len : n ≡ prefix_len not_space tail) (front : word ≡ take n tail) (back : more ≡ drop n tail) where
+  pub word_leads : (z : ℤ) → Short z → word ≡ signed_decimal z → Leads rest (to_z w64 (of_z w64 z)) more
+  word_leads z s e =
+      let whole = take-append-drop n tail in
+      rw passed
+      (s, subst Ends (ap (λ k. drop k tail) (sym len) ∙ sym back) (ends_leading tail), cc)
 
-  pub word_not : ((z : ℤ) → Short z → take n tail ≡ signed_decimal z → ⊥) → (z : ℤ) (more : List ℕ) → Leads rest z more → ⊥
-  word_not h z more k =
-      h z k.0 (ap (λ m. take m tail) len ∙ cut_number tail z more (k.0, k.1, sym split ∙ k.2))
+  pub word_not : ((z : ℤ) → Short z → word ≡ signed_decimal z → ⊥) → (z : ℤ) (later : List ℕ) → Leads rest z later → ⊥
+  word_not h z later k =
+      h z k.0 (front ∙ ap (λ m. take m tail) len ∙ cut_number tail z later (k.0, k.1, sym split ∙ k.2))
 
 -- lists of numbers, one number at a time
 ends_spaced : (zs : List ℤ) → Ends (spaced zs)
@@ -182,21 +160,49 @@ ends_spaced [] = λ h. omega arith
 ends_spaced (z ∷ zs) = λ h. refl
 
 lists_leads : (bytes : List ℕ) (z : ℤ) (zs : List ℤ) → Lists bytes (z ∷ zs) → Leads bytes z (spaced zs)
-lists_leads bytes z zs h = (h.0.0, ends_spaced zs, h.1)
+lists_leads bytes z zs h = (All-head Short z zs h.0, ends_spaced zs, h.1)
 
 module _ (bytes : List ℕ) where
-  pub none_start : (n : ℕ) → ((z : ℤ) (more : List ℕ) → Leads bytes z more → ⊥) → NoneOf (suc n) bytes
+  none_start : (n : ℕ) → ((z : ℤ) (more : List ℕ) → Leads bytes z more → ⊥) → NoneOf (suc n) bytes
   none_start n h [] e l = omega arith
   none_start n h (z ∷ zs) e l = h z (spaced zs) (lists_leads bytes z zs l)
 
-  pub none_after : (n : ℕ) (z : ℤ) (more : List ℕ) → Leads bytes z more → NoneOf n more → NoneOf (suc n) bytes
+  none_after : (n : ℕ) (z : ℤ) (more : List ℕ) → Leads bytes z more → NoneOf n more → NoneOf (suc n) bytes
   none_after n z more k h [] e l = omega arith
   none_after n z more k h (y ∷ ys) e l =
-      h ys (omega arith) (l.0.1, (leads_same bytes z y more (spaced ys) k (lists_leads bytes y ys l)).1)
+      h ys (omega arith) (All-tail Short y ys l.0, (leads_same bytes z y more (spaced ys) k (lists_leads bytes y ys l)).1)
 
-  pub none_left : 0 < length bytes → NoneOf 0 bytes
+  none_left : 0 < length bytes → NoneOf 0 bytes
   none_left h [] e l = omega (arith, ap length l.1)
   none_left h (z ∷ zs) e l = omega arith
 
-  pub lists_more : (z : ℤ) (more : List ℕ) (zs : List ℤ) → Leads bytes z more → Lists more zs → Lists bytes (z ∷ zs)
-  lists_more z more zs k l = ((k.0, l.0), k.2 ∙ ap (λ m. codes " " ++ (signed_decimal z ++ m)) l.1)
+  lists_more : (z : ℤ) (more : List ℕ) (zs : List ℤ) → Leads bytes z more → Lists more zs → Lists bytes (z ∷ zs)
+  lists_more z more zs k l = (All-cons Short z zs k.0 l.0, k.2 ∙ ap (λ m. codes " " ++ (signed_decimal z ++ m)) l.1)
+
+-- some numbers lead the bytes: what the rest of the bytes lists goes on from them, and nothing else does
+pub record Lead (bytes : List ℕ) (found : List ℤ) (rest : List ℕ) : Type 0 where
+  pub lists : (zs : List ℤ) → Lists rest zs → Lists bytes (found ++ zs)
+  pub none : (n : ℕ) → NoneOf n rest → NoneOf (length found + n) bytes
+
+pub lead_more : {bytes rest : List ℕ} (found : List ℤ) (i : ℕ) (z y : ℤ) (more : List ℕ) → Lead bytes (take i found) rest → i < length found → Leads rest z more → y ≡ z → Lead bytes (take (i + 1) (set found i y)) more
+lead_more {rest = rest} found i z y more a l k e =
+    rw (take_more_set, e)
+    (record {
+      lists = λ zs h. rw append_assoc (a.lists (z ∷ zs) (lists_more rest z more zs k h));
+      none = λ n h.
+          let e : length (take i found ++ z ∷ []) + n ≡ length (take i found) + suc n = omega (arith, length_push (take i found) z) in
+          rw e (a.none (suc n) (none_after rest n z more k h));
+    })
+
+pub lead_stops : {bytes : List ℕ} {found : List ℤ} {rest : List ℕ} (n : ℕ) → Lead bytes found rest → length found < n → ((z : ℤ) (more : List ℕ) → Leads rest z more → ⊥) → NoneOf n bytes
+lead_stops {found = found} {rest = rest} n a l h =
+    let k = n - suc (length found) in
+    let e : length found + suc k ≡ n = omega arith in
+    rw e at (a.none (suc k) (none_start rest k h))
+
+-- nothing is left after the numbers, or something is
+pub lead_ends : {bytes : List ℕ} (n : ℕ) (found : List ℤ) (rest : List ℕ) → length found ≡ n → Lead bytes found rest → MatchOption (then_some (length rest == 0) found) (NoneOf n bytes) (Lists bytes)
+lead_ends n found [] e a = rw append-nil at (a.lists [] (All-nil Short, refl))
+lead_ends n found (x ∷ rest) e a =
+    let some : (length (x ∷ rest) == 0) ≡ false = grind (arith, nat_tests) in
+    rw some (rw (add-zero, e) at (a.none 0 (none_left (x ∷ rest) (omega arith))))

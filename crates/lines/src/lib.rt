@@ -11,7 +11,7 @@ use terms::Refusal;
 mod numbers;
 mod words;
 
-use numbers::{four_numbers, one_number, three_numbers};
+use numbers::numbers;
 use words::{Word, split_word};
 
 // The kinds of weight that a close can name.
@@ -22,9 +22,9 @@ pub enum Kind {
     SumWorst,
 }
 
-// What a line says. A note keeps its text where it stands in the block; the other orders hold plain
-// numbers, of ten digits at most, whose ranges are tested where they are used.
-#[derive(Clone, Copy)]
+// What a line says. A note keeps its text where it stands in the block. By a rule of the project orders
+// hold their numbers plain, each by its name, of ten digits at most; ranges are tested where they are used.
+#[derive(Clone, Copy, Debug, PartialEq, Eq)]
 pub enum Line<'a> {
     Note(&'a [u8]),
     Head {
@@ -66,10 +66,7 @@ pub fn read_line(bytes: &[u8]) -> Result<Line<'_>, Refusal>
     ensures reads { Reads bytes.now result }
     ensures alone { OneReading }
 {
-    match order_in(bytes) {
-        Some(line) => Ok(line),
-        None => Err(Refusal::NotAnOrder),
-    }
+    order_in(bytes).ok_or(Refusal::NotAnOrder)
 }
 
 // The order that the bytes spell, if they spell one.
@@ -87,7 +84,7 @@ fn order_after(word: Word, rest: &[u8]) -> Option<Line<'_>>
     match word {
         Word::Note => Some(Line::Note(text_in(rest)?)),
         Word::Head => {
-            let (serial, reach, stiffness) = three_numbers(rest)?;
+            let [serial, reach, stiffness] = numbers::<3>(rest)?;
             Some(Line::Head {
                 serial,
                 reach,
@@ -95,29 +92,28 @@ fn order_after(word: Word, rest: &[u8]) -> Option<Line<'_>>
             })
         }
         Word::Use => {
-            let serial = one_number(rest)?;
+            let [serial] = numbers::<1>(rest)?;
             Some(Line::Use { serial })
         }
         Word::Corner => {
-            let (x, y, z) = three_numbers(rest)?;
+            let [x, y, z] = numbers::<3>(rest)?;
             Some(Line::Corner { x, y, z })
         }
         Word::Close => Some(Line::Close(kind_in(rest)?)),
         Word::Move => {
-            let (corner, x, y, z) = four_numbers(rest)?;
+            let [corner, x, y, z] = numbers::<4>(rest)?;
             Some(Line::Move { corner, x, y, z })
         }
         Word::Ban => {
-            let (i, k, j) = three_numbers(rest)?;
+            let [i, k, j] = numbers::<3>(rest)?;
             Some(Line::Ban { i, k, j })
         }
         Word::Lift => {
-            let (i, k, j) = three_numbers(rest)?;
+            let [i, k, j] = numbers::<3>(rest)?;
             Some(Line::Lift { i, k, j })
         }
-        Word::Fill if rest.is_empty() => Some(Line::Fill),
-        Word::Standing if rest.is_empty() => Some(Line::Standing),
-        Word::Fill | Word::Standing => None,
+        Word::Fill => rest.is_empty().then_some(Line::Fill),
+        Word::Standing => rest.is_empty().then_some(Line::Standing),
     }
 }
 
@@ -125,13 +121,14 @@ fn order_after(word: Word, rest: &[u8]) -> Option<Line<'_>>
 fn text_in(rest: &[u8]) -> Option<&[u8]>
     ensures { TextIn rest.now result }
 {
-    let [b' ', text @ ..] = rest else {
-        return None;
-    };
-    if text.is_empty() { None } else { Some(text) }
+    match rest {
+        [b' ', text @ ..] if !text.is_empty() => Some(text),
+        _ => None,
+    }
 }
 
-// The kind that stands by its name after one space.
+// The kind that stands by its name after one space. A `TryFrom` would answer a `Result`, of which
+// its one caller makes an `Option` again.
 fn kind_in(rest: &[u8]) -> Option<Kind>
     ensures { KindIn rest.now result }
 {

@@ -1,26 +1,26 @@
-use Rattle.std.proofs.Common.{sym, ap, ◌∙◌, arith}
-use Rattle.std.proofs.lemmas.List.{at_drop_all}
+use Rattle.std.proofs.Common.{◌≡◌, true, false, sym, ◌∙◌, arith}
+use Rattle.std.specs.Prelude.{◌==◌}
+use Rattle.std.specs.List.{list_any}
 use Rattle.std.proofs.lemmas.Bool.Decides.{nat_tests}
-use Rattle.blocks.specs.Lines.{lent}
-use Rattle.blocks.specs.Packing.{checked}
-use Rattle.blocks.proofs.Cuts.{lent_from}
+use Rattle.blocks.proofs.Cuts.{broken_if, lent_from, line_at}
 use Rattle.blocks.proofs.packing.check_lines.Goals as goal
 
-pub returns-then-line-gt-LINE_MAX : goal.returns-then-line-gt-LINE_MAX
-returns-then-line-gt-LINE_MAX c =
-    let e = ap (checked c.loop-i.i) (lent_from c.args.lines.now c.loop-i.i c.loop-i-test.true) in
-    grind (arith, nat_tests)
-
-pub returns-then-len_before-line : goal.returns-then-len_before-line
-returns-then-len_before-line c =
-    let e = ap (checked c.loop-i.i) (lent_from c.args.lines.now c.loop-i.i c.loop-i-test.true) in
+pub returns-then-contains : goal.returns-then-contains
+returns-then-contains c =
+    let line = line_at c.args.lines.now c.loop-i.i in
+    let l = lent_from c.args.lines.now c.loop-i.i c.loop-i-test.true in
+    let b = broken_if line in
+    let t : list_any (λ b. b == 10) line ≡ true = sym c.contains.ensures.value ∙ c.if-contains.true in
+    let i = c.loop-i.invariant in
+    let s = c.if-line-gt-LINE_MAX.false in
     grind (arith, nat_tests)
 
 pub loop-i-preserved : goal.loop-i-preserved
 loop-i-preserved c =
-    let e = ap (checked c.loop-i.i) (lent_from c.args.lines.now c.loop-i.i c.loop-i-test.true) in
+    let line = line_at c.args.lines.now c.loop-i.i in
+    let l = lent_from c.args.lines.now c.loop-i.i c.loop-i-test.true in
+    let b = broken_if line in
+    let t : list_any (λ b. b == 10) line ≡ false = sym c.contains.ensures.value ∙ c.if-contains.false in
+    let i = c.loop-i.invariant in
+    let s = c.if-line-gt-LINE_MAX.false in
     grind (arith, nat_tests)
-
-pub returns : goal.returns
-returns c =
-    sym (ap (checked c.loop-i.i) (at_drop_all lent c.args.lines.now c.loop-i.i c.loop-i-test.false)) ∙ c.loop-i.invariant
