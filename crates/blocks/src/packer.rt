@@ -3,7 +3,7 @@ ghost use Rattle.std.specs.Prelude.{◌≡◌, ◌≤◌, [], length};
 
 use crate::check::{BLOCK_SIZE, Block, TEXT_END, TEXT_MAX, TEXT_START, USED_AT, sum_of};
 use crate::packing::PackError;
-use std::alloc::Global;
+use std::alloc::{AllocError, Global};
 
 // A job that is being packed: the full blocks are in `job`, and the lines of the open one in `text`.
 #[derive(Drop)]
@@ -15,10 +15,10 @@ pub(crate) struct Packer {
 }
 
 impl Packer {
-    ghost use Rattle.std.specs.Prelude.{true, Ok};
+    ghost use Rattle.std.specs.Prelude.{true, Ok, OnOk};
     ghost use Rattle.blocks.specs.Layout.{ended, verdict};
     ghost use Rattle.blocks.specs.Packing.{block_of};
-    ghost use Rattle.blocks.specs.Packer.{Adds, Finishes};
+    ghost use Rattle.blocks.specs.Packer.{Adds, Finishes, Seals};
 
     pub(crate) fn new(heap: Global) -> Packer
         ensures { (result.job.items ≡ []) × (result.number ≡ 0) × (result.text.items ≡ []) }
@@ -47,14 +47,22 @@ impl Packer {
         block
     }
 
+    // Puts the open block behind the full ones.
+    fn seal(&mut self) -> Result<(), AllocError>
+        ensures job { OnOk result (Seals self.old self.new.job.items) }
+        ensures rest { (self.new.number ≡ self.old.number) × (self.new.text ≡ self.old.text) }
+    {
+        let block = self.block();
+        self.job.extend_from_slice(&block)
+    }
+
     // Puts a line into the open block, or into the next, where the open one has no room for it.
     pub(crate) fn add(&mut self, line: &[u8]) -> Result<(), PackError>
         requires { length line.now ≤ 503 }
         ensures { Adds self.old line.now result self.new }
     {
         if self.text.len() + line.len() + 1 > TEXT_MAX {
-            let full = self.block();
-            self.job.extend_from_slice(&full)?;
+            self.seal()?;
             self.number = self.number.checked_add(1).ok_or(PackError::TooManyBlocks)?;
             self.text.clear();
         }
@@ -68,8 +76,7 @@ impl Packer {
         ensures { Finishes self result }
     {
         if !self.text.is_empty() {
-            let last = self.block();
-            self.job.extend_from_slice(&last)?;
+            self.seal()?;
         }
         Ok(self.job)
     }
