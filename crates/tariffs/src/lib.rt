@@ -44,8 +44,8 @@ pub trait Tariff {
     ghost proper: { (t : Self) → Proper (view t) };
 }
 
-// A tariff that takes two changes, amend and exchange, which promise alike, clause by clause: one definition for the four
-// clauses would be longer at each use than the clause that is cited.
+// A tariff that takes two changes, amend and exchange. Four of their clauses are alike; one definition for the four would be
+// longer at each use than the clause that is cited.
 pub trait Amendable: Tariff {
     // What it answers now and after any list of changes.
     ghost meaning: { Self → Meaning };
@@ -82,6 +82,6 @@ pub trait Amendable: Tariff {
     // What is kept by each of several calls in a row is kept by all of them.
     ghost chains: { Chains keeps };
 
-    // And so what none of them altered.
+    // What each of several calls in a row left unaltered, all of them did.
     ghost steady: { Chains unaltered };
 }

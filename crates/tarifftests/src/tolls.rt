@@ -124,7 +124,7 @@ impl<'a> Amendable for Tolls<'a> {
 
     fn amend(&mut self, corner: u16, x: i32, _y: i32, _z: i32) -> Result<(), Refusal> {
         let toll = toll_of(x).ok_or(Refusal::OutOfRange)?;
-        // No `get_mut`: the corner has to be below 4 too, and the two tests are one condition so.
+        // One condition has both bounds; `get_mut` would test one of them.
         if corner >= 4 || usize::from(corner) >= self.tolls.len() {
             return Err(Refusal::BadCorner);
         }
