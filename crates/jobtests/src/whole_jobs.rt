@@ -86,7 +86,12 @@ fn fails(rt: &(impl Abort + AllocGlobal), lines: &[&[u8]], text: &str) -> Result
 fn what_people_are_told(rt: HostRuntime) -> Result<(), Fail> {
     let longer = [b'a'; 504];
     fails(&rt, &[b"fill", &longer], "line 2 has more than 503 bytes")?;
-    fails(&rt, &[b"a\nb"], "line 1 holds a line break")
+    fails(&rt, &[b"a\nb"], "line 1 holds a line break")?;
+    let many = format!(in rt.alloc(); "{}", PackError::TooManyBlocks)?;
+    assert!(rt; many.as_str() == "the lines fill more than 65,536 blocks");
+    let full = format!(in rt.alloc(); "{}", PackError::OutOfMemory)?;
+    assert!(rt; full.as_str() == "out of memory");
+    Ok(())
 }
 
 #[test]

@@ -1,48 +1,28 @@
 -- The dearest of a list, by what its triangles offer.
-use Rattle.std.proofs.Common.{◌≡◌, ℕ, true, false, List, [], ◌∷◌, map, length, get_or, Some, None, Option, Bor, refl, sym, ap, subst, ◌∙◌, arith}
+use Rattle.std.proofs.Common.{◌≡◌, ℕ, true, false, List, [], ◌∷◌, map, length, Some, None, Option, refl, sym, ap, subst, ◌∙◌, inl, inr, arith}
 use Rattle.std.specs.Prelude.{All, Contains}
-use Rattle.std.specs.List.{filter_map, cons_option}
-use Rattle.std.specs.Option.{option_map, IfSome, IsSomeAnd, MatchOption}
-use Rattle.std.specs.Fn.{CalledAt}
-use Rattle.std.specs.Iterator.Runs.{Run, AllItems, AnyItem, CallKeepsClosure, NoKeyBeyond}
-use Rattle.std.specs.Ordering.{is_gt, is_le}
-use Rattle.std.specs.declared.cmp.Ordering.{Ordering}
-use Rattle.std.specs.declared.cmp.Ordering.TheVariants.{Less, Equal, Greater}
-use Rattle.std.proofs.lemmas.List.Elements.{All-nil, All-cons, All-head, All-tail, All-weaker, All-contains, Contains-append_right}
+use Rattle.std.specs.List.{filter_map, cons_option, fold}
+use Rattle.std.specs.Option.{option_map, MatchOption}
+use Rattle.std.specs.Iterator.{ActsAsOnTwo}
+use Rattle.std.specs.Iterator.Runs.{Run, IsReduceRun}
+use Rattle.std.proofs.lemmas.Bool.{both_ways, cond_both}
+use Rattle.std.proofs.lemmas.List.Elements.{All-nil, All-cons, All-head, All-tail, All-weaker, All-contains, Contains-append_cases, Contains-append_left, Contains-append_right}
 use denote.Param.Members.{Mut}
 use Rattle.terms.specs.declared.triangles.Triangle.{Triangle}
-use Rattle.weights.specs.Kinds.{Kind}
+use Rattle.weights.specs.Kinds.{Kind, Lawful}
 use Rattle.tariffs.specs.Views.{View}
-use Rattle.pricing.specs.Prices.{Dearest, NotAbove, weighed}
+use Rattle.pricing.specs.Prices.{Dearest, NotAbove, larger, weighed}
 
 nothing_is_some : {X : Type 0} {P : Type 0} (x : X) → ◌≡◌ {A = Option X} None (Some x) → P
 nothing_is_some x e = absurd (cc)
-
-not_greater : (o : Ordering) → is_gt o ≡ false → is_le o ≡ true
-not_greater Less e = refl
-not_greater Equal e = refl
-not_greater Greater e = sym e
 
 pub filter_map-map : {X Y Z : Type 0} (v : X → Y) (h : Y → Option Z) (xs : List X) → filter_map (λ x. h (v x)) xs ≡ filter_map h (map v xs)
 filter_map-map v h [] = refl
 filter_map-map v h (x ∷ xs) = ap (cons_option (h (v x))) (filter_map-map v h xs)
 
--- what holds of an item of a run holds of the item in its list
-module _ {X : Type 0} (P : X → Type 0) where
-  any_read : (o : Option X) (x : X) → option_map (λ y. y) o ≡ Some x → IsSomeAnd o P → P x
-  any_read None x e h = absurd h
-  any_read (Some y) x e h = let s : y ≡ x = cc in subst P s h
-
-  all_read : (o : Option X) (x : X) → option_map (λ y. y) o ≡ Some x → IfSome o P → P x
-  all_read None x e h = nothing_is_some x e
-  all_read (Some y) x e h = any_read (Some y) x e h
-
-module _ {S X : Type 0} {steps : S → Option X → S → Type 0} (p : Run steps) where
-  all_listed : (P : X → Type 0) → AllItems p P → All P p.items
-  all_listed P h k d l = all_read P (p.at k) (get_or p.items k d) (p.reads k d (omega (arith, p.long))) (h k)
-
-  any_listed : (x : X) → AnyItem p (λ y. y ≡ x) → Contains p.items x
-  any_listed x a = (a.0, omega (arith, p.long, a.1), any_read (λ y. y ≡ x) (p.at a.0) (get_or p.items a.0 x) (p.reads a.0 x a.1) a.2)
+-- the dearer of each in turn and those before it
+abbrev pub largest : {W : Type 0} → Kind W → Triangle × W → List (Triangle × W) → Triangle × W
+largest kind = fold (λ most. larger kind (Some most))
 
 module _ {W : Type 0} (kind : Kind W) (view : View) where
   -- a triangle with its weight, if it has a price
@@ -92,20 +72,58 @@ module _ {W : Type 0} (kind : Kind W) (view : View) where
   none_offered : (ts : List Triangle) → length (offers ts) ≡ 0 → All (λ t. view.price t ≡ None) ts
   none_offered ts e = all_offered (λ _. ⊥) (λ t. view.price t ≡ None) (λ t f. f) (λ t p f n. absurd n) ts (λ k d l. absurd (omega (arith, e, l)))
 
-  -- where the keys of the items of a run rank them by their weights
-  module _ {S F K : Type 0} {steps : S → Option (Triangle × W) → S → Type 0} (p : Run steps) (g : Mut F (Bor (Triangle × W) × Unit {0}) K) (f : F) (cmp : K → K → Ordering)
-      (keeps : CallKeepsClosure g f) (ranks : (b m : Triangle × W) (j k : K) → CalledAt g f b j f → CalledAt g f m k f → is_le (cmp j k) ≡ kind.not_above b.1 m.1) where
-    no_key_beyond : (m : Triangle × W) → NoKeyBeyond p g f is_gt cmp m → All (λ b. kind.not_above b.1 m.1 ≡ true) p.items
-    no_key_beyond m h =
-        let n = h keeps in
-        All-weaker (λ b. (j : K) × CalledAt g f b j f × (is_gt (cmp j n.0) ≡ false)) (λ b. kind.not_above b.1 m.1 ≡ true)
-        (λ b c. sym (ranks b m c.0 n.0 c.1 n.1) ∙ not_greater (cmp c.0 n.0) c.2) p.items
-        (all_listed p (λ b. (j : K) × CalledAt g f b j f × (is_gt (cmp j n.0) ≡ false)) n.2)
+module _ {W : Type 0} {kind : Kind W} (lawful : Lawful kind) where
+  reflexive : (a : W) → kind.not_above a a ≡ true
+  reflexive a = elim (lawful.total a a) [ inl e ↦ e | inr e ↦ e ]
 
-    pub dearest_of : (ts : List Triangle) (r : Option (Triangle × W)) → p.items ≡ offers ts
-        → MatchOption r (p.len ≡ 0) (λ m. AnyItem p (λ b. b ≡ m) × NoKeyBeyond p g f is_gt cmp m) → Dearest kind view ts r
-    dearest_of ts None e h = none_offered ts (sym (ap length e) ∙ sym p.long ∙ h)
-    dearest_of ts (Some m) e h =
-        let l = subst (λ l. Contains l m) e (any_listed p m h.0) in
-        let b = All-contains (Listed ts) (offers ts) m (offered_listed ts) l in
-        (b.0, b.1, none_above m.1 ts (subst (All (λ b. kind.not_above b.1 m.1 ≡ true)) e (no_key_beyond m h.1)))
+  otherwise : (a b : W) → kind.not_above a b ≡ false → kind.not_above b a ≡ true
+  otherwise a b n = elim (lawful.total a b) [ inl e ↦ absurd (both_ways (kind.not_above a b) n e) | inr e ↦ e ]
+
+  abbrev NoneAbove : Triangle × W → Triangle × W → Type 0
+  NoneAbove m b = kind.not_above b.1 m.1 ≡ true
+
+  -- one of them, and none is above it
+  abbrev Picked : List (Triangle × W) → Triangle × W → Type 0
+  Picked bs m = Contains bs m × All (NoneAbove m) bs
+
+  later : (m b x : Triangle × W) (bs : List (Triangle × W)) → Contains (m ∷ bs) x → Contains (m ∷ (b ∷ bs)) x
+  later m b x bs c =
+      elim (Contains-append_cases (m ∷ []) bs x c) [
+        | inl d ↦ Contains-append_left (m ∷ []) (b ∷ bs) x d
+        | inr d ↦ Contains-append_right (m ∷ (b ∷ [])) bs x d
+      ]
+
+  first_stays : (m b x : Triangle × W) (bs : List (Triangle × W)) → kind.not_above b.1 m.1 ≡ true → Picked (m ∷ bs) x → Picked (m ∷ (b ∷ bs)) x
+  first_stays m b x bs n h =
+      let first = All-head (NoneAbove x) m bs h.1 in
+      let rest = All-tail (NoneAbove x) m bs h.1 in
+      (later m b x bs h.0, All-cons (NoneAbove x) m (b ∷ bs) first (All-cons (NoneAbove x) b bs (lawful.transitive b.1 m.1 x.1 n first) rest))
+
+  second_taken : (m b x : Triangle × W) (bs : List (Triangle × W)) → kind.not_above m.1 b.1 ≡ true → Picked (b ∷ bs) x → Picked (m ∷ (b ∷ bs)) x
+  second_taken m b x bs n h =
+      let first = All-head (NoneAbove x) b bs h.1 in
+      (Contains-append_right (m ∷ []) (b ∷ bs) x h.0, All-cons (NoneAbove x) m (b ∷ bs) (lawful.transitive m.1 b.1 x.1 n first) h.1)
+
+  picked : (m : Triangle × W) (bs : List (Triangle × W)) → Picked (m ∷ bs) (largest kind m bs)
+  picked m [] = ((0, omega arith, refl), All-cons (NoneAbove m) m [] (reflexive m.1) (All-nil (NoneAbove m)))
+  picked m (b ∷ bs) =
+      cond_both (kind.not_above b.1 m.1) m b (λ x. Picked (m ∷ (b ∷ bs)) (largest kind x bs))
+      (λ n. first_stays m b (largest kind m bs) bs n (picked m bs))
+      (λ n. second_taken m b (largest kind b bs) bs (otherwise b.1 m.1 n) (picked b bs))
+
+  largest_of : (view : View) (ts : List Triangle) (b : Triangle × W) (bs : List (Triangle × W)) → offers kind view ts ≡ b ∷ bs → Dearest kind view ts (Some (largest kind b bs))
+  largest_of view ts b bs e =
+      let m = largest kind b bs in
+      let h = picked b bs in
+      let l = All-contains (Listed kind view ts) (offers kind view ts) m (offered_listed kind view ts) (subst (λ l. Contains l m) (sym e) h.0) in
+      (l.0, l.1, none_above kind view m.1 ts (subst (All (NoneAbove m)) (sym e) h.1))
+
+  -- where the items of a run are what the triangles offer, and each call answers the larger of two
+  module _ {S F : Type 0} {steps : S → Option (Triangle × W) → S → Type 0} (p : Run steps) (g : Mut F ((Triangle × W) × ((Triangle × W) × Unit {0})) (Triangle × W)) (f : F)
+      (larger_of : ActsAsOnTwo g f (λ most. larger kind (Some most))) where
+    pub dearest_of : (view : View) (ts : List Triangle) (r : Option (Triangle × W)) → p.items ≡ offers kind view ts
+        → MatchOption r (p.len ≡ 0) (IsReduceRun p g f) → Dearest kind view ts r
+    dearest_of view ts None e h = none_offered kind view ts (sym (ap length e) ∙ sym p.long ∙ h)
+    dearest_of view ts (Some m) e h =
+        let n = h.1 in
+        rw (n.3 (λ most. larger kind (Some most)) larger_of) (largest_of view ts n.0 n.1 (sym e ∙ n.2))

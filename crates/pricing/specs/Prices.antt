@@ -1,5 +1,5 @@
 -- What lists of triangles weigh, for a kind of weight and what a tariff answers.
-use Rattle.std.specs.Prelude.{◌≡◌, ℕ, true, List, [], ◌∷◌, Some, None, Option, All, Contains}
+use Rattle.std.specs.Prelude.{◌≡◌, ℕ, true, cond, List, [], ◌∷◌, Some, None, Option, All, Contains}
 use Rattle.std.specs.Option.{option_map}
 use Rattle.terms.specs.declared.triangles.Triangle.{Triangle}
 use Rattle.weights.specs.Kinds.{Kind}
@@ -29,3 +29,8 @@ module _ {W : Type 0} (kind : Kind W) where
   abbrev pub Dearest : View → List Triangle → Option (Triangle × W) → Type 0
   Dearest view ts None = All (λ t. view.price t ≡ None) ts
   Dearest view ts (Some b) = Contains ts b.0 × (weighed (view.price b.0) ≡ Some b.1) × All (NotAbove view b.1) ts
+
+  -- the one with the larger weight, the first where neither is larger
+  abbrev pub larger : Option (Triangle × W) → Triangle × W → Triangle × W
+  larger None t = t
+  larger (Some b) t = cond (kind.not_above t.1 b.1) b t

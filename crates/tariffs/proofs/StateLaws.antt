@@ -12,6 +12,9 @@ module _ {S : Type 0} (outlook : S → Outlook) (accepted : S → Change → S) 
   pub refused_next : (s : S) (c : Change) (e : Refusal) → (outlook s).answer c ≡ Err e → next outlook accepted s c ≡ s
   refused_next s c e f = ap (λ (a : Answer). if_accepted a (accepted s c) s) f
 
+  pub accepted_next : (s : S) (c : Change) → (outlook s).answer c ≡ Ok tt → next outlook accepted s c ≡ accepted s c
+  accepted_next s c f = ap (λ (a : Answer). if_accepted a (accepted s c) s) f
+
   amends : (a : Answer) (c : ℕ) (before new : S) → (a ≡ Ok tt → OnlyAt c (outlook before).view (outlook new).view) → ((e : Refusal) → a ≡ Err e → AmendRefusal e)
       → Amended a c (outlook before).view (outlook (if_accepted a new before)).view
   amends (Ok u) c before new h k = h refl

@@ -12,6 +12,7 @@ pub fn make_call<T: Amendable>(tariff: &mut T, call: Call) -> Reply
     ensures beyond { T.keeps tariff.old tariff.new }
     ensures unaltered { result ≢ Reply.Answered (Ok tt) → T.unaltered tariff.old tariff.new }
 {
+    tariff.present();
     match call {
         Call::Corners => Reply::Number(tariff.corners()),
         Call::Knows(serial) => Reply::Known(tariff.knows(serial)),

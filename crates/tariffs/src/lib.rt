@@ -56,6 +56,11 @@ pub trait Amendable: Tariff {
     // Holds of the tariff before and after a call: nothing of it was altered, nor of any memory that it was lent.
     ghost unaltered: { Self → Self → Type 0 };
 
+    // Its meaning begins with what it answers now. The call does nothing: its contract hands this fact to the caller. A law
+    // would ask more, as it is owed at all numbers of the logic, those too that no program can hold.
+    fn present(&self)
+        ensures { (meaning self.now []).view ≡ Self.view self.now };
+
     // Changes what concerns one corner, by three numbers whose meaning is the tariff's own; a struct of them would be taken
     // apart at once.
     fn amend(&mut self, corner: u16, x: i32, y: i32, z: i32) -> Result<(), Refusal>
@@ -72,9 +77,6 @@ pub trait Amendable: Tariff {
         ensures prices { Exchanged result serial (Self.view self.old) (Self.view self.new) }
         ensures beyond { keeps self.old self.new }
         ensures refused { OnErr result (unaltered self.old self.new) };
-
-    // Its meaning begins with what it answers now.
-    ghost begins: { (t : Self) → (meaning t []).view ≡ Self.view t };
 
     // The laws of amend and exchange.
     ghost obeys: { (t : Self) → Obeys (meaning t) };

@@ -1,2 +1,4 @@
+pub mod Charges
+pub mod ChargeLaws
 pub mod Tolls
 pub mod TollLaws

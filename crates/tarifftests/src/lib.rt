@@ -1,6 +1,7 @@
-// A tiny tariff that keeps the laws, and examples of triangles, weights, tariffs and prices at their edges.
+// A tiny kind of weight and a tiny tariff that keep the laws, and examples of triangles, weights, tariffs and prices at their edges.
 #![tactic(auto)]
 
+mod charged;
 mod lent;
 #[cfg(test)]
 mod price_edges;

@@ -1,4 +1,5 @@
 // Lists of triangles under the tiny tariff, in each kind of weight.
+use crate::charged::Charged;
 use crate::tolls::Tolls;
 use pricing::{dearest, weight_of};
 use terms::Triangle;
@@ -47,5 +48,38 @@ fn the_dearest_of_a_list(rt: HostRuntime) {
     assert_eq!(rt;
         dearest(&tolls, &[NONE, HIGH, LOW]),
         Some((HIGH, Worst { price: 720 }))
+    );
+}
+
+#[test]
+fn the_first_of_equally_dear_triangles(rt: HostRuntime) {
+    let mut memory = [5, 5, 5, 5];
+    let tolls = Tolls::new(&mut memory);
+    assert_eq!(rt;
+        dearest(&tolls, &[LOW, HIGH]),
+        Some((LOW, Worst { price: 15 }))
+    );
+    assert_eq!(rt;
+        dearest(&tolls, &[NONE, HIGH, LOW, HIGH]),
+        Some((HIGH, SumWorst::Pair { sum: 15, worst: 15 }))
+    );
+}
+
+#[test]
+fn a_kind_whose_type_has_no_order(rt: HostRuntime) {
+    let mut memory = [0, 0, 0, 400];
+    let tolls = Tolls::new(&mut memory);
+    assert_eq!(rt;
+        weight_of(&tolls, &[LOW, LOW]),
+        Some(Charged { any: false })
+    );
+    assert_eq!(rt;
+        weight_of(&tolls, &[LOW, HIGH]),
+        Some(Charged { any: true })
+    );
+    assert_eq!(rt; weight_of::<Charged, _>(&tolls, &[LOW, NONE]), None);
+    assert_eq!(rt;
+        dearest(&tolls, &[LOW, HIGH]),
+        Some((HIGH, Charged { any: true }))
     );
 }

@@ -1,5 +1,5 @@
 // A tiny tariff: a loop of four corners, each with a toll that lies in memory of the caller's.
-ghost use Rattle.std.specs.Prelude.{◌≡◌, refl};
+ghost use Rattle.std.specs.Prelude.{◌≡◌};
 ghost use Rattle.std.specs.Option.{ok_or};
 ghost use Rattle.terms.specs.declared.Refusal.TheVariants.{SerialUnknown};
 ghost use Rattle.tariffs.specs.Lent.{SameFrom, same_from, with_value};
@@ -114,13 +114,13 @@ impl<'a> Amendable for Tolls<'a> {
 
     ghost unaltered = { λ s t. (t.head ≡ s.head) × SameFrom 0 s.tolls t.tolls };
 
-    ghost begins = { λ _. refl };
-
     ghost obeys = { λ s. obeys_all (state s.tolls.now s.head) };
 
     ghost chains = { same_from 4 (λ s. s.tolls) };
 
     ghost steady = { with_value (λ s. s.head) (same_from 0 (λ s. s.tolls)) };
+
+    fn present(&self) {}
 
     fn amend(&mut self, corner: u16, x: i32, _y: i32, _z: i32) -> Result<(), Refusal> {
         let toll = toll_of(x).ok_or(Refusal::OutOfRange)?;

@@ -1,4 +1,5 @@
 pub mod Kinds
+pub mod Numbers
 pub mod Sums
 pub mod SumLaws
 pub mod Worsts

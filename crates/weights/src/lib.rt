@@ -14,7 +14,7 @@ pub use sum_worst::SumWorst;
 pub use worst::Worst;
 
 // A weight of some kind. The weight of a fill joins the weights of its prices.
-pub trait Weight: Copy + Ord {
+pub trait Weight: Copy {
     // The kind: what the four functions below answer.
     ghost kind: { Kind Self };
 
@@ -30,16 +30,15 @@ pub trait Weight: Copy + Ord {
     fn join(self, other: Self) -> Self
         ensures { result ≡ kind.join self other };
 
-    // Whether it is lighter than the other or equal to it.
+    // Whether it is lighter than the other or equal to it. A body here, `self <= other`, would ask every kind for an order.
     fn not_above(self, other: Self) -> bool
-        ensures { result ≡ kind.not_above self other }
-    {
-        self <= other
-    }
+        ensures { result ≡ kind.not_above self other };
 
     // The laws of the kind, for all its weights.
     ghost lawful: { Lawful kind };
+}
 
-    // `<=` is the order of the kind.
-    ghost ordered: { (a b : Self) → is_le (Self.Ord.cmp a b) ≡ kind.not_above a b };
+// A weight whose `<=` is the order of its kind. A kind need not have one.
+pub trait OrderedWeight: Weight + Ord {
+    ghost ordered: { (a b : Self) → is_le (Self.Ord.cmp a b) ≡ Self.Weight.kind.not_above a b };
 }

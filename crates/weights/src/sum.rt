@@ -4,7 +4,7 @@ ghost use Rattle.std.proofs.Common.{rules};
 ghost use Rattle.weights.specs.Sums.{sum};
 ghost use Rattle.weights.specs.SumLaws.{sum_lawful};
 
-use crate::Weight;
+use crate::{OrderedWeight, Weight};
 use std::fmt;
 
 // A number up to 2^64 - 1. Joining adds, and stays at the top where the sum would pass it. One generic struct for this and
@@ -36,8 +36,14 @@ impl Weight for Sum {
         }
     }
 
-    ghost lawful = { sum_lawful };
+    fn not_above(self, other: Sum) -> bool {
+        self <= other
+    }
 
+    ghost lawful = { sum_lawful };
+}
+
+impl OrderedWeight for Sum {
     ghost ordered = { Prim.search rules };
 }
 

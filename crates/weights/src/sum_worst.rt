@@ -4,7 +4,7 @@ ghost use Rattle.std.proofs.Common.{rules};
 ghost use Rattle.weights.specs.SumWorsts.{capped, sum_worst, written};
 ghost use Rattle.weights.specs.SumWorstLaws.{sum_worst_lawful};
 
-use crate::Weight;
+use crate::{OrderedWeight, Weight};
 use std::fmt;
 
 // A sum of prices with the highest of them, or top, which is above every pair: what a sum beyond 2^64 - 1 becomes. It is
@@ -43,8 +43,14 @@ impl Weight for SumWorst {
         }
     }
 
-    ghost lawful = { sum_worst_lawful };
+    fn not_above(self, other: SumWorst) -> bool {
+        self <= other
+    }
 
+    ghost lawful = { sum_worst_lawful };
+}
+
+impl OrderedWeight for SumWorst {
     ghost ordered = { Prim.search rules };
 }
 

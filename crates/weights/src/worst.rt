@@ -4,7 +4,7 @@ ghost use Rattle.std.proofs.Common.{rules};
 ghost use Rattle.weights.specs.Worsts.{worst};
 ghost use Rattle.weights.specs.WorstLaws.{worst_lawful};
 
-use crate::Weight;
+use crate::{OrderedWeight, Weight};
 use std::fmt;
 
 // A number up to 2^32 - 1. Joining takes the larger. No generic struct serves this and `Sum`, as is said there.
@@ -30,8 +30,14 @@ impl Weight for Worst {
         }
     }
 
-    ghost lawful = { worst_lawful };
+    fn not_above(self, other: Worst) -> bool {
+        self <= other
+    }
 
+    ghost lawful = { worst_lawful };
+}
+
+impl OrderedWeight for Worst {
     ghost ordered = { Prim.search rules };
 }
 
